@@ -1,12 +1,12 @@
 -- What `shape` reads off its two tables is what the rules' one table says.
 use Prim.Native.Nat.{ℕ, _<_, _≤_}
 use mathlib.Core.Path.{_≡_, refl}
-use mathlib.Core.Bool.{Bool, true, false, _&&_, _||_}
+use mathlib.Core.Bool.{Bool, true, false, cond, _&&_, _||_}
 use mathlib.Core.List.{map}
 use lib.ListN.{length, getD, List·getD-map}
 use lib.Dec.{ltb, eqb}
 use borrow.Author.Tests.{lt-ltb, le-ltb}
-use Rattle.event.specs.Event.{Parts, kinds, kindOf, addressOf, shapeOf, pick}
+use Rattle.event.specs.Event.{Parts, kinds, kindOf, addressOf, shapeOf}
 
 -- 01 names ten kinds.
 pub ten-kinds : length kinds ≡ 10
@@ -22,7 +22,7 @@ test k address value =
     (getD (map (λ (p : Parts). p .address) kinds) k false || eqb address 0)
     && (getD (map (λ (p : Parts). p .value) kinds) k false || eqb value 0)
 
-pub shape-kind : (head value : ℕ) (t : Bool) → kindOf head < 10 → test (kindOf head) (addressOf head) value ≡ t → pick t 0 7 ≡ shapeOf head value
+pub shape-kind : (head value : ℕ) (t : Bool) → kindOf head < 10 → test (kindOf head) (addressOf head) value ≡ t → cond t 0 7 ≡ shapeOf head value
 unfolding shapeOf
 shape-kind head value t h e =
     rw (lt-ltb _ _ h, ← List·getD-map (λ (p : Parts). p .address), ← List·getD-map (λ (p : Parts). p .value), e)

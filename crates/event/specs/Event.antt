@@ -1,14 +1,9 @@
 -- Document 01, "Events and registers": the head and the value of an event; questions 6 and 7.
 use Prim.Native.Nat.{ℕ, _/_, _%_}
-use mathlib.Core.Bool.{Bool, true, false, _&&_, _||_}
+use mathlib.Core.Bool.{Bool, true, false, cond, _&&_, _||_}
 use mathlib.Core.List.{List, [], _∷_}
 use lib.ListN.{length, getD}
 use lib.Dec.{ltb, eqb}
-
--- One of two values, by a test.
-abbrev pub pick {ℓ} : {A : Type ℓ} → Bool → A → A → A
-pick true a b = a
-pick false a b = b
 
 -- Kind = head / 65,536.
 abbrev pub kindOf : ℕ → ℕ
@@ -83,6 +78,6 @@ unusedAreZero p address value = (p .address || eqb address 0) && (p .value || eq
 -- Questions 6 and 7, first no decides; 0 where both are answered yes.
 unfoldable pub shapeOf : ℕ → ℕ → ℕ
 shapeOf head value =
-    pick (isKind (kindOf head))
-    (pick (unusedAreZero (getD kinds (kindOf head) (uses false false)) (addressOf head) value) 0 7)
+    cond (isKind (kindOf head))
+    (cond (unusedAreZero (getD kinds (kindOf head) (uses false false)) (addressOf head) value) 0 7)
     6

@@ -1,0 +1,71 @@
+-- Each answer of a call, from what its questions showed.
+use Prim.Native.Nat.{ℕ, _+_, _*_, _/_, _%_, _^_, _≤_, _<_}
+use mathlib.Core.Path.{_≡_, refl, sym, ap, _∙_}
+use mathlib.Core.Bool.{Bool, true, false, cond, not, _&&_}
+use native.Mathlib.Omega.{arith}
+use lib.ListN.{length}
+use lib.Dec.{leb, ltb, eqb}
+use borrow.Author.Tests.{le-leb, lt-ltb, le-ltb, lt-leb, eq-eqb, ne-eqb, not-true, not-false}
+use Rattle.pic.specs.declared.Controller.{Controller}
+use Rattle.pic.specs.declared.Register.{Register}
+use Rattle.pic.specs.declared.Register.the-variants.{Meipl, Meip, Meie, Mpiccfg, Meigwctrl, Meigwclr, NoRegister}
+use Rattle.pic.specs.Sources.{isSource, settle}
+use Rattle.pic.specs.Sound.{soundOf, sourcesSound}
+use Rattle.pic.specs.Registers.{isRegister, sourceRegister, pageRegister, registerAt}
+use Rattle.pic.proofs.Bools.{decided}
+use Rattle.pic.proofs.Soundness.{Sound, facts, settle-same}
+
+-- What `is_sound` tests is soundness: the rest holds by the types.
+module _ (c : Controller) (n : c .sources < 256) (b : c .base < 2 ^ 32) where
+  pub sound-tested : {ok : Bool} → c .sources < length (c .rank) → c .sources < length (c .enable) → c .sources < length (c .trigger)
+      → c .sources < length (c .polarity) → c .sources < length (c .line) → c .sources < length (c .latch) → ok ≡ sourcesSound c (c .sources)
+      → leb 2 (c .sources) && leb (c .priord) 1 && eqb (c .base % 1024) 0 && leb (c .claim) (c .sources) && leb (c .threshold .0) 15
+      && leb (c .claimed .0) 15
+      && leb (c .current .0) 15
+      && ok
+      ≡ soundOf c
+  unfolding soundOf
+  sound-tested h0 h1 h2 h3 h4 h5 e =
+      rw (lt-ltb _ _ h0, lt-ltb _ _ h1, lt-ltb _ _ h2, lt-ltb _ _ h3, lt-ltb _ _ h4, lt-ltb _ _ h5, le-leb (c .sources) 255 (omega arith), lt-ltb _ _ b, e)
+
+-- The answer of `if !is_sound()`.
+pub unsound : (c : Controller) {r : Bool} → r ≡ soundOf c → not r ≡ true → soundOf c ≡ false
+unsound c {r} e h = sym e ∙ not-true r h
+
+pub is-sound : (c : Controller) {r : Bool} → r ≡ soundOf c → not r ≡ false → soundOf c ≡ true
+is-sound c {r} e h = sym e ∙ not-false r h
+
+-- On a sound controller an event that changes nothing hands it back.
+pub settled : (c : Controller) → soundOf c ≡ true → c ≡ settle c
+settled c e = sym (settle-same c (facts c e))
+
+-- What is at an offset is a register that the controller can have.
+source-valid : (n page s : ℕ) → isSource n s ≡ true → isRegister n (sourceRegister page s) ≡ true
+unfolding sourceRegister
+source-valid n page s h = go (eqb page 0) (eqb page 2) (eqb page 4) (eqb page 5)
+  where
+    go : (a b d e : Bool)
+        → isRegister n (cond a (Meipl s) (cond b (Meie s) (cond d (Meigwctrl s) (cond e (Meigwclr s) NoRegister)))) ≡ true
+    go true b d e = h
+    go false true d e = h
+    go false false true e = h
+    go false false false true = h
+    go false false false false = refl
+
+pub register-valid : (n offset : ℕ) → isRegister n (registerAt n offset) ≡ true
+unfolding pageRegister
+register-valid n offset =
+    go (eqb (offset / 4096) 1) (ltb (offset % 4096 / 4) 8) refl (eqb (offset / 4096) 3) (eqb (offset % 4096 / 4) 0)
+    (isSource n (offset % 4096 / 4)) refl
+  where
+    go : (a b : Bool) → ltb (offset % 4096 / 4) 8 ≡ b → (d e f : Bool) → isSource n (offset % 4096 / 4) ≡ f
+        → isRegister n
+        (cond a (cond b (Meip (offset % 4096 / 4)) NoRegister)
+        (cond d (cond e Mpiccfg NoRegister) (cond f (sourceRegister (offset / 4096) (offset % 4096 / 4)) NoRegister)))
+        ≡ true
+    go true true p d e f q = p
+    go true false p d e f q = refl
+    go false b p true true f q = refl
+    go false b p true false f q = refl
+    go false b p false e true q = source-valid n (offset / 4096) (offset % 4096 / 4) q
+    go false b p false e false q = refl

@@ -1,0 +1,10 @@
+-- Laws of the controller's rules, and bench points computed from them.
+pub mod Bools
+pub mod Gap
+pub mod Latches
+pub mod Soundness
+pub mod Winning
+pub mod Calling
+pub mod Writes
+pub mod Turns
+pub mod Points

@@ -1,0 +1,104 @@
+-- The winner that the rules compute is the one of 01's sentence.
+use Prim.Native.Nat.{ℕ, zero, suc, _≤_, _<_}
+use mathlib.Core.Path.{_≡_, refl, sym, ap, _∙_}
+use mathlib.Core.Bool.{Bool, true, false, cond, _&&_}
+use mathlib.Core.Logic.{_⊎_, inl, inr, ⊎-elim}
+use native.Mathlib.Omega.{arith}
+use lib.Dec.{leb, ltb, eqb}
+use borrow.Author.Tests.{ltb-true, ltb-false, leb-true, le-ltb}
+use Rattle.pic.specs.declared.Controller.{Controller}
+use Rattle.pic.specs.declared.Rank.{Rank}
+use Rattle.pic.specs.declared.Winner.{Winner}
+use Rattle.pic.specs.Ranks.{rank}
+use Rattle.pic.specs.Sources.{rankAt, enableAt, pendingAt, isEligible, eligibleAt, entryOf, betterOf, nobody, winnerTo, winnerOf, Eligible, Before, Served, Idle, IsWinner}
+use Rattle.pic.proofs.Bools.{never, and-parts, eq-cases, le-cases}
+use Rattle.pic.proofs.Soundness.{Sound}
+
+-- An eligible source is enabled, pending, and of rank 1 or more.
+pub eligible-parts : (c : Controller) (s : ℕ) → eligibleAt c s ≡ true → (eqb (enableAt c s) 1 ≡ true) × (pendingAt c s ≡ true) × (1 ≤ rankAt c s .0)
+unfolding isEligible
+eligible-parts c s e =
+    let p = and-parts (eqb (enableAt c s) 1 && pendingAt c s) (leb 1 (rankAt c s .0)) e in
+    let q = and-parts (eqb (enableAt c s) 1) (pendingAt c s) (p .0) in
+    (q .0, q .1, leb-true 1 (rankAt c s .0) (p .1))
+
+module _ (c : Controller) (n : ℕ) where
+  -- One of the sources 1 to n + 1 is the last, or one of the others.
+  split : (s : ℕ) → Eligible c (suc n) s → (s ≡ suc n) ⊎ Eligible c n s
+  split s h = ⊎-elim (λ e. inl e) (λ e. inr (record { least = h .least; most = omega (arith, h .most); eligible = h .eligible })) (eq-cases s (suc n))
+
+  more : (s : ℕ) → Eligible c n s → Eligible c (suc n) s
+  more s h = record { least = h .least; most = omega (arith, h .most); eligible = h .eligible }
+
+  -- The last source is not eligible.
+  passed : (w : Winner) → eligibleAt c (suc n) ≡ false → IsWinner c n w → IsWinner c (suc n) w
+  passed w e (inl h) =
+      inl (record { eligible = more _ (h .eligible); ranked = h .ranked; best = λ s a d. ⊎-elim (λ z. gone s z a) (λ b. h .best s b d) (split s a) })
+    where
+      gone : (s : ℕ) → s ≡ suc n → Eligible c (suc n) s → Before c w s
+      gone s z a = never (sym e ∙ ap (eligibleAt c) (sym z) ∙ a .eligible)
+  passed w e (inr h) =
+      inr (record { none = λ s a. ⊎-elim (λ z. never (sym e ∙ ap (eligibleAt c) (sym z) ∙ a .eligible)) (λ b. h .none s b) (split s a); nobody-won = h .nobody-won })
+
+  -- The last source is of a strictly higher rank than the winner of the others.
+  taken : (w : Winner) → eligibleAt c (suc n) ≡ true → w .rank .0 < rankAt c (suc n) .0 → IsWinner c n w
+      → IsWinner c (suc n) (record { source = suc n; rank = rankAt c (suc n) })
+  taken w e l h =
+      inl (record {
+        eligible = record { least = omega arith; most = omega arith; eligible = e };
+        ranked = refl;
+        best = λ s a d. ⊎-elim (λ z. absurd (d z)) (λ b. inl (lower s b h)) (split s a);
+      })
+    where
+      lower : (s : ℕ) → Eligible c n s → IsWinner c n w → rankAt c s .0 < rankAt c (suc n) .0
+      lower s b (inl k) =
+          ⊎-elim
+          (λ z. let f : rankAt c s .0 ≡ w .rank .0 = ap (λ (i : ℕ). rankAt c i .0) z ∙ sym (ap (λ (r : Rank). r .0) (k .ranked)) in omega arith)
+          (λ z. ⊎-elim (λ f. omega arith) (λ f. omega (arith, f .0)) (k .best s b z))
+          (eq-cases s (w .source))
+      lower s b (inr k) = absurd (k .none s b)
+
+  -- The last source is eligible, and of no higher rank.
+  left : (w : Winner) → eligibleAt c (suc n) ≡ true → rankAt c (suc n) .0 ≤ w .rank .0 → IsWinner c n w → IsWinner c (suc n) w
+  left w e l (inl h) =
+      inl (record { eligible = more _ (h .eligible); ranked = h .ranked; best = λ s a d. ⊎-elim (λ z. behind s z) (λ b. h .best s b d) (split s a) })
+    where
+      behind : (s : ℕ) → s ≡ suc n → Before c w s
+      behind s z =
+          let f : rankAt c s .0 ≤ w .rank .0 = rw z l in
+          ⊎-elim (λ g. inr (g, omega (arith, h .eligible .most))) (λ g. inl (omega (arith, g))) (eq-cases (rankAt c s .0) (w .rank .0))
+  left w e l (inr h) =
+      let z : w .rank .0 ≡ 0 = ap (λ (v : Winner). v .rank .0) (h .nobody-won) in
+      absurd (omega (arith, eligible-parts c (suc n) e .2))
+
+  one-more : IsWinner c n (winnerTo c n) → IsWinner c (suc n) (winnerTo c (suc n))
+  unfolding winnerTo betterOf entryOf
+  one-more h = go (eligibleAt c (suc n)) refl
+    where
+      under : (t : Bool) → eligibleAt c (suc n) ≡ true → ltb (winnerTo c n .rank .0) (rankAt c (suc n) .0) ≡ t
+          → IsWinner c (suc n) (cond t (record { source = suc n; rank = rankAt c (suc n) }) (winnerTo c n))
+      under true e f = taken (winnerTo c n) e (ltb-true _ _ f) h
+      under false e f = left (winnerTo c n) e (ltb-false _ _ f) h
+
+      go : (t : Bool) → eligibleAt c (suc n) ≡ t
+          → IsWinner c (suc n) (betterOf (winnerTo c n) (entryOf (eligibleAt c (suc n)) (suc n) (rankAt c (suc n) .0)))
+      go true e = rw e (under (ltb (winnerTo c n .rank .0) (rankAt c (suc n) .0)) e refl)
+      go false e = rw (e, le-ltb (winnerTo c n .rank .0) 0 (omega arith)) (passed (winnerTo c n) e h)
+
+winner-to : (c : Controller) (n : ℕ) → IsWinner c n (winnerTo c n)
+unfolding winnerTo
+winner-to c zero = inr (record { none = λ s h. omega (arith, h .least, h .most); nobody-won = refl })
+winner-to c (suc n) = one-more c n (winner-to c n)
+
+-- The winner is the eligible source of highest rank, of equals the lowest number; with none it is 0, of rank 0.
+pub winner-is : (c : Controller) → IsWinner c (c .sources) (winnerOf c)
+winner-is c = winner-to c (c .sources)
+
+-- The winner of a sound controller is a source or 0, of rank 0..15.
+pub winner-small : (c : Controller) → Sound c → (winnerOf c .source ≤ c .sources) × (winnerOf c .rank .0 ≤ 15)
+winner-small c h = go (winner-is c)
+  where
+    go : IsWinner c (c .sources) (winnerOf c) → (winnerOf c .source ≤ c .sources) × (winnerOf c .rank .0 ≤ 15)
+    go (inl s) =
+        (s .eligible .most, rw (s .ranked) (h .inRange .columns .0 .each (winnerOf c .source) (s .eligible .least) (s .eligible .most)))
+    go (inr i) = rw (i .nobody-won) (omega arith, omega arith)

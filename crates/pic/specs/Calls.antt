@@ -1,0 +1,83 @@
+-- Document 01, "Questions, first no decides": what each call of the controller answers. Question 8 comes first; 6, 7 and 14 are asked above.
+use Prim.Native.Nat.{ℕ, _<_, _%_}
+use mathlib.Core.Bool.{Bool, true, false, cond, not}
+use lib.Dec.{leb, ltb, eqb}
+use lib.IntN.{ℤ, pos}
+use Rattle.pic.specs.declared.Controller.{Controller}
+use Rattle.pic.specs.declared.Outcome.{Outcome}
+use Rattle.pic.specs.declared.Margin.{Margin}
+use Rattle.pic.specs.declared.Capture.{Capture}
+use Rattle.pic.specs.Sources.{settle, winnerOf, nobody, marginOf, captured}
+use Rattle.pic.specs.Sound.{initial, isCount, soundOf}
+use Rattle.pic.specs.Registers.{sampled, registerAt, readOf, writtenOf, csrAt, isCsr, csrValue, csrWritten, meihapOf}
+
+-- An accepted event hands back a controller and its answer, with no refusal.
+abbrev pub handed : Controller → ℕ → Outcome
+handed c a = record { controller = c; answer = a; refusal = 0 }
+
+-- After each accepted event the latches are settled.
+abbrev pub accepted : Controller → ℕ → Outcome
+accepted c a = handed (settle c) a
+
+-- A refused event answers 0 and the number, and leaves the controller as it was.
+abbrev pub refused : Controller → ℕ → Outcome
+refused c q = record { controller = c; answer = 0; refusal = q }
+
+-- The first question: no is the refusal q, yes goes on.
+abbrev pub ask : Controller → Bool → ℕ → Outcome → Outcome
+ask c answer q on = cond answer on (refused c q)
+
+-- 2. Is N in 2..255? No: 2, and power-on then hands back the machine of N 2.
+unfoldable pub powerOnOf : ℕ → Outcome
+powerOnOf n = cond (isCount n) (handed (initial n) 0) (refused (initial 2) 2)
+
+-- Sample. 8. Is the machine sound? 9. Is the address 0..7?
+unfoldable pub sampleOf : Controller → ℕ → ℕ → Outcome
+sampleOf c x v = ask c (soundOf c) 8 (ask c (leb x 7) 9 (accepted (sampled c x v) 0))
+
+-- Load. 8. 10. Is the offset below 0x8000? 11. Is it a multiple of 4?
+unfoldable pub loadOf : Controller → ℕ → Outcome
+loadOf c offset =
+    ask c (soundOf c) 8
+    (ask c (ltb offset 0x8000) 10
+    (ask c (eqb (offset % 4) 0) 11
+    (accepted c (readOf c (registerAt (c .sources) offset)))))
+
+-- Store, with the same questions.
+unfoldable pub storeOf : Controller → ℕ → ℕ → Outcome
+storeOf c offset v =
+    ask c (soundOf c) 8
+    (ask c (ltb offset 0x8000) 10
+    (ask c (eqb (offset % 4) 0) 11
+    (accepted (writtenOf c (registerAt (c .sources) offset) v) 0)))
+
+-- CSR read. 8. 12. Is it one of the six?
+unfoldable pub csrReadOf : Controller → ℕ → Outcome
+csrReadOf c a = ask c (soundOf c) 8 (ask c (isCsr (csrAt a)) 12 (accepted c (csrValue c (csrAt a))))
+
+-- CSR write. 8. 12. 13. Is it not 0xFC8?
+unfoldable pub csrWriteOf : Controller → ℕ → ℕ → Outcome
+csrWriteOf c a v =
+    ask c (soundOf c) 8
+    (ask c (isCsr (csrAt a)) 12
+    (ask c (not (eqb a 0xFC8)) 13
+    (accepted (csrWritten c (csrAt a) v) 0)))
+
+-- A query gives the margin for any sound machine; refused, it answers 0 and the number.
+unfoldable pub marginAnswer : Controller → Margin
+marginAnswer c = cond (soundOf c) (record { margin = marginOf c; refusal = 0 }) (record { margin = pos 0; refusal = 8 })
+
+-- A capture and what it captured, for the layer above: meihap after it, the winner, whether that is above the threshold, of a rank greater than it, and the
+-- margin, as just before.
+unfoldable pub captureOf : Controller → Capture
+captureOf c =
+    cond (soundOf c)
+    (record {
+      controller = settle (captured c);
+      meihap = meihapOf (captured c);
+      winner = winnerOf c;
+      above = ltb (c .threshold .0) (winnerOf c .rank .0);
+      margin = marginOf c;
+      refusal = 0;
+    })
+    (record { controller = c; meihap = 0; winner = nobody; above = false; margin = pos 0; refusal = 8 })

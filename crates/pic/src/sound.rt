@@ -1,0 +1,96 @@
+// Power-on, and whether a controller is sound.
+
+ghost use mathlib.Core.Path.{_≡_};
+ghost use Rattle.pic.specs.Calls.{powerOnOf};
+ghost use Rattle.pic.specs.Sound.{initial, sourceSound, sourcesSound, soundOf};
+use crate::Controller;
+use crate::Outcome;
+use crate::Rank;
+
+fn source_sound(rank: u8, enable: u8, trigger: u8, polarity: u8, line: u8, latch: u8) -> bool
+    ensures { λ r. ⌜ r ≡ sourceSound rank enable trigger polarity line latch ⌝ }
+{
+    (rank <= 15)
+        & (enable <= 1)
+        & (trigger <= 1)
+        & (polarity <= 1)
+        & (line <= 1)
+        & (latch <= 1)
+        & ((line == polarity) | (latch == 1))
+}
+
+// All else 0.
+fn with_sources(n: u8) -> Controller
+    ensures { λ r. ⌜ r ≡ initial n ⌝ }
+{
+    Controller {
+        sources: n,
+        rank: [0u8; 256],
+        enable: [0u8; 256],
+        trigger: [0u8; 256],
+        polarity: [0u8; 256],
+        line: [0u8; 256],
+        latch: [0u8; 256],
+        priord: 0,
+        base: 0,
+        claim: 0,
+        threshold: Rank(0),
+        claimed: Rank(0),
+        current: Rank(0),
+    }
+}
+
+impl Controller {
+    // The controller at power-on with n sources; where n is not 2..255, refusal 2 and the controller of 2 sources.
+    pub fn power_on(n: u32) -> Outcome
+        ensures { λ r. ⌜ r ≡ powerOnOf n ⌝ }
+    {
+        if (2 <= n) & (n <= 255) {
+            Outcome {
+                controller: with_sources(n as u8),
+                answer: 0,
+                refusal: 0,
+            }
+        } else {
+            Outcome {
+                controller: with_sources(2),
+                answer: 0,
+                refusal: 2,
+            }
+        }
+    }
+
+    fn sources_sound(self) -> bool
+        ensures { λ r. ⌜ r ≡ sourcesSound self (self .sources) ⌝ }
+    {
+        let n = self.sources as usize;
+        let mut ok = true;
+        let mut s: usize = 0;
+        while s < n {
+            s += 1;
+            ok = ok
+                & source_sound(
+                    self.rank[s],
+                    self.enable[s],
+                    self.trigger[s],
+                    self.polarity[s],
+                    self.line[s],
+                    self.latch[s],
+                );
+        }
+        ok
+    }
+
+    pub fn is_sound(self) -> bool
+        ensures { λ r. ⌜ r ≡ soundOf self ⌝ }
+    {
+        (2 <= self.sources)
+            & (self.priord <= 1)
+            & (self.base % 1024 == 0)
+            & (self.claim <= self.sources)
+            & (self.threshold.0 <= 15)
+            & (self.claimed.0 <= 15)
+            & (self.current.0 <= 15)
+            & self.sources_sound()
+    }
+}
