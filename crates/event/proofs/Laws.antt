@@ -1,12 +1,13 @@
--- What `shape` reads off its two tables is what the rules' one table says.
+-- What `shape` reads off its two tables is what the rules' one table says; and which question fails first.
 use Prim.Native.Nat.{ℕ, _<_, _≤_}
 use mathlib.Core.Path.{_≡_, refl}
 use mathlib.Core.Bool.{Bool, true, false, cond, _&&_, _||_}
 use mathlib.Core.List.{map}
+use mathlib.Core.Logic.{_⊎_, inl, inr}
 use lib.ListN.{length, getD, List·getD-map}
 use lib.Dec.{ltb, eqb}
 use borrow.Author.Tests.{lt-ltb, le-ltb}
-use Rattle.event.specs.Event.{Parts, kinds, kindOf, addressOf, shapeOf}
+use Rattle.event.specs.Event.{Parts, kinds, kindOf, addressOf, isKind, unusedAreZero, shapeOf}
 
 -- 01 names ten kinds.
 pub ten-kinds : length kinds ≡ 10
@@ -26,3 +27,16 @@ pub shape-kind : (head value : ℕ) (t : Bool) → kindOf head < 10 → test (ki
 unfolding shapeOf
 shape-kind head value t h e =
     rw (lt-ltb _ _ h, ← List·getD-map (λ (p : Parts). p .address), ← List·getD-map (λ (p : Parts). p .value), e)
+
+-- The number of an event that fails is that of its first no: 6 where it is of no kind, else 7.
+abbrev pub FirstNo : Bool → Bool → ℕ → Type 0
+FirstNo six seven q = ((six ≡ false) × (q ≡ 6)) ⊎ ((six ≡ true) × (seven ≡ false) × (q ≡ 7))
+
+pub first-question : (head value : ℕ) → (shapeOf head value ≡ 0 → ⊥) → FirstNo (isKind (kindOf head)) (unusedAreZero head value) (shapeOf head value)
+unfolding shapeOf
+first-question head value = go (isKind (kindOf head)) (unusedAreZero head value)
+  where
+    go : (six seven : Bool) → (_≡_ {A = ℕ} (cond six (cond seven 0 7) 6) 0 → ⊥) → FirstNo six seven (cond six (cond seven 0 7) 6)
+    go true true h = absurd (h refl)
+    go true false h = inr (refl, refl, refl)
+    go false seven h = inl (refl, refl)

@@ -71,13 +71,15 @@ kinds =
 abbrev pub isKind : ℕ → Bool
 isKind k = ltb k (length kinds)
 
+-- The row of a kind.
+abbrev pub partsOf : ℕ → Parts
+partsOf k = getD kinds k (uses false false)
+
 -- 7. Are unused parts 0?
-abbrev pub unusedAreZero : Parts → ℕ → ℕ → Bool
-unusedAreZero p address value = (p .address || eqb address 0) && (p .value || eqb value 0)
+abbrev pub unusedAreZero : ℕ → ℕ → Bool
+unusedAreZero head value =
+    (partsOf (kindOf head) .address || eqb (addressOf head) 0) && (partsOf (kindOf head) .value || eqb value 0)
 
 -- Questions 6 and 7, first no decides; 0 where both are answered yes.
 unfoldable pub shapeOf : ℕ → ℕ → ℕ
-shapeOf head value =
-    cond (isKind (kindOf head))
-    (cond (unusedAreZero (getD kinds (kindOf head) (uses false false)) (addressOf head) value) 0 7)
-    6
+shapeOf head value = cond (isKind (kindOf head)) (cond (unusedAreZero head value) 0 7) 6

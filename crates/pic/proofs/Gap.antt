@@ -11,11 +11,11 @@ use mir.Val.{SFits, toZ, ofZ}
 use mir.Syntax.{w32}
 use mir.Facts.{toZ-pos, toZ-ofZ}
 
-not-less : (a b : ℕ) → b ≤ a → pos a -ℤ pos b ≡ pos (a - b)
+pub not-less : (a b : ℕ) → b ≤ a → pos a -ℤ pos b ≡ pos (a - b)
 not-less a zero h = ap pos (omega arith)
 not-less a (suc n) h = rw (le-ltb a (suc n) h)
 
-less : (a b : ℕ) → a < b → pos a -ℤ pos b ≡ negsuc (b - suc a)
+pub less : (a b : ℕ) → a < b → pos a -ℤ pos b ≡ negsuc (b - suc a)
 less a zero h = absurd (omega arith)
 less a (suc n) h = rw (lt-ltb a (suc n) h)
 

@@ -5,6 +5,11 @@ pub mod Latches
 pub mod Soundness
 pub mod Winning
 pub mod Calling
+pub mod Mirror
+pub mod Offsets
+pub mod Kept
+pub mod Words
+pub mod Margins
 pub mod Writes
 pub mod Turns
 pub mod Points

@@ -8,7 +8,7 @@ use Rattle.pic.specs.Ranks.{mirror}
 use Rattle.pic.specs.Sources.{latchesTo, isPending, isEligible, entryOf, betterOf, winnerTo, winnerOf, higherOf, gapOf, marginOf, activeAt, latchAt, pendingAt}
 use Rattle.pic.specs.Sound.{initial, sourceSound, sourcesSound, soundOf}
 use Rattle.pic.specs.Registers.{linesTo, sourceRegister, pageRegister, joinOf, pendingTo, readOf, writtenOf, csrAt, csrValue, csrWritten}
-use Rattle.pic.specs.Calls.{sampleOf, loadOf, storeOf, csrReadOf, csrWriteOf, marginAnswer}
+use Rattle.pic.specs.Calls.{sampleOf, offsetRefusal, loadOf, storeOf, csrReadOf, csrWriteOf, marginAnswer}
 
 -- A call that changes the controller.
 data Change : Type 0 where
@@ -64,7 +64,7 @@ record Points : Type 0 where
   k9 : csrReadOf (after 4 (store 0x200C 1 ∷ store 0xC 5 ∷ sample 0 8 ∷ csr 0xBCA 0 ∷ csr 0xBC8 0x12345678 ∷ [])) 0xFC8 .answer ≡ 0x1234540C
 
 points : Points
-unfolding sampleOf loadOf storeOf csrReadOf csrWriteOf marginAnswer soundOf sourcesSound sourceSound latchesTo linesTo writtenOf readOf csrAt csrValue csrWritten pageRegister sourceRegister mirror isPending isEligible entryOf betterOf winnerTo higherOf gapOf joinOf pendingTo
+unfolding sampleOf offsetRefusal loadOf storeOf csrReadOf csrWriteOf marginAnswer soundOf sourcesSound sourceSound latchesTo linesTo writtenOf readOf csrAt csrValue csrWritten pageRegister sourceRegister mirror isPending isEligible entryOf betterOf winnerTo higherOf gapOf joinOf pendingTo
 points =
     record {
       k1 = refl;

@@ -14,6 +14,7 @@ use Rattle.pic.specs.Sources.{isSource, lineAt, polarityAt, latchAt, lat
 use Rattle.pic.specs.Registers.{bitOf, linesTo, sampled, writtenOf}
 use Rattle.pic.proofs.Latches.{at, length-latches, latch-in, latches-same, latches-one, latches-line}
 use Rattle.pic.proofs.Soundness.{Sound, source-range}
+use Rattle.pic.proofs.Words.{lines-length}
 
 -- A change that leaves lines, polarities and latches alone.
 pub settle-kept : (c d : Controller) → Sound c → d .sources ≡ c .sources → d .line ≡ c .line → d .polarity ≡ c .polarity → d .latch ≡ c .latch
@@ -60,16 +61,6 @@ module _ (c : Controller) (h : Sound c) (x v : ℕ) where
   abbrev pub sampledTo : ℕ → Controller
   sampledTo y = settle (withLine c (linesTo (c .sources) (c .line) x v y))
 
-  pub length-lines : (y : ℕ) → length (linesTo (c .sources) (c .line) x v y) ≡ length (c .line)
-  unfolding linesTo
-  length-lines zero = refl
-  length-lines (suc y) = go (isSource (c .sources) (32 * x + y)) (length-lines y)
-    where
-      go : (t : Bool) → length (linesTo (c .sources) (c .line) x v y) ≡ length (c .line)
-          → length (cond t (set (linesTo (c .sources) (c .line) x v y) (32 * x + y) (bitOf v y)) (linesTo (c .sources) (c .line) x v y)) ≡ length (c .line)
-      go true i = simp length-set i
-      go false i = i
-
   -- The lines from bit y up are as they were.
   pub line-ahead : (y s : ℕ) → 32 * x + y ≤ s → getD (linesTo (c .sources) (c .line) x v y) s 0 ≡ lineAt c s
   unfolding linesTo
@@ -103,7 +94,7 @@ module _ (c : Controller) (h : Sound c) (x v : ℕ) where
         hl ∙ ap (λ (a : ℕ). latchAfter b (polarityAt m (32 * x + y)) a) seen
         ∙ ap (λ (d : Controller). latchAfter b (polarityAt d (32 * x + y)) (latchAt c (32 * x + y))) hm in
         let f = latches-line (linesTo (c .sources) (c .line) x v y) (c .polarity) (c .latch) (c .sources) (32 * x + y) (k .5 .long) (r .0) (r .1) b l e
-        (rw (length-lines y) (k .4 .long)) in
+        (rw (lines-length (c .sources) (c .line) x v y) (k .4 .long)) in
         rw (add-one, t, hm, ← hb) (ap (withLatch (withLine c (set (linesTo (c .sources) (c .line) x v y) (32 * x + y) b))) f)
 
     -- One turn at a bit of no source.

@@ -35,21 +35,23 @@ powerOnOf n = cond (isCount n) (handed (initial n) 0) (refused (initial 2) 2)
 unfoldable pub sampleOf : Controller → ℕ → ℕ → Outcome
 sampleOf c x v = ask c (soundOf c) 8 (ask c (leb x 7) 9 (accepted (sampled c x v) 0))
 
--- Load. 8. 10. Is the offset below 0x8000? 11. Is it a multiple of 4?
+-- 10. Is the offset below 0x8000? 11. Is it a multiple of 4? The number of the first no, else 0.
+unfoldable pub offsetRefusal : ℕ → ℕ
+offsetRefusal offset = cond (ltb offset 0x8000) (cond (eqb (offset % 4) 0) 0 11) 10
+
+-- A question whose answers are numbers: 0 is yes.
+abbrev pub askNumber : Controller → ℕ → Outcome → Outcome
+askNumber c q on = ask c (eqb q 0) q on
+
+-- Load. 8, then 10 and 11.
 unfoldable pub loadOf : Controller → ℕ → Outcome
 loadOf c offset =
-    ask c (soundOf c) 8
-    (ask c (ltb offset 0x8000) 10
-    (ask c (eqb (offset % 4) 0) 11
-    (accepted c (readOf c (registerAt (c .sources) offset)))))
+    ask c (soundOf c) 8 (askNumber c (offsetRefusal offset) (accepted c (readOf c (registerAt (c .sources) offset))))
 
 -- Store, with the same questions.
 unfoldable pub storeOf : Controller → ℕ → ℕ → Outcome
 storeOf c offset v =
-    ask c (soundOf c) 8
-    (ask c (ltb offset 0x8000) 10
-    (ask c (eqb (offset % 4) 0) 11
-    (accepted (writtenOf c (registerAt (c .sources) offset) v) 0)))
+    ask c (soundOf c) 8 (askNumber c (offsetRefusal offset) (accepted (writtenOf c (registerAt (c .sources) offset) v) 0))
 
 -- CSR read. 8. 12. Is it one of the six?
 unfoldable pub csrReadOf : Controller → ℕ → Outcome
@@ -67,17 +69,22 @@ csrWriteOf c a v =
 unfoldable pub marginAnswer : Controller → Margin
 marginAnswer c = cond (soundOf c) (record { margin = marginOf c; refusal = 0 }) (record { margin = pos 0; refusal = 8 })
 
--- A capture and what it captured, for the layer above: meihap after it, the winner, whether that is above the threshold, of a rank greater than it, and the
+-- A capture, for the layer above: the controller, meihap after it, the winner, whether that is above the threshold, of a rank greater than it, and the
 -- margin, as just before.
-unfoldable pub captureOf : Controller → Capture
-captureOf c =
-    cond (soundOf c)
-    (record {
+abbrev pub capturing : Controller → Capture
+capturing c =
+    record {
       controller = settle (captured c);
       meihap = meihapOf (captured c);
       winner = winnerOf c;
       above = ltb (c .threshold .0) (winnerOf c .rank .0);
       margin = marginOf c;
       refusal = 0;
-    })
-    (record { controller = c; meihap = 0; winner = nobody; above = false; margin = pos 0; refusal = 8 })
+    }
+
+-- Refused, it captures nothing.
+abbrev pub notCaptured : Controller → ℕ → Capture
+notCaptured c q = record { controller = c; meihap = 0; winner = nobody; above = false; margin = pos 0; refusal = q }
+
+unfoldable pub captureOf : Controller → Capture
+captureOf c = cond (soundOf c) (capturing c) (notCaptured c 8)

@@ -105,6 +105,16 @@ writtenOf c (Meigwclr s) v = withLatch c (set (c .latch) s 0)
 writtenOf c NoRegister v = c
 
 -- CSRs: 0xBC8 meivt; 0xBC9 meipt; 0xBCA meicpct; 0xBCB meicidpl; 0xBCC meicurpl; 0xFC8 meihap.
+abbrev pub addressOf : Csr → ℕ
+addressOf Meivt = 0xBC8
+addressOf Meipt = 0xBC9
+addressOf Meicpct = 0xBCA
+addressOf Meicidpl = 0xBCB
+addressOf Meicurpl = 0xBCC
+addressOf Meihap = 0xFC8
+addressOf NoCsr = 0
+
+-- The CSR that has an address. `address-csr` and `csr-address` of the laws say that it is the one of the table.
 unfoldable pub csrAt : ℕ → Csr
 csrAt a =
     cond (eqb a 0xBC8) Meivt

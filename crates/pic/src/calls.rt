@@ -1,7 +1,7 @@
 // The calls of the controller, each with its questions in order.
 
 ghost use mathlib.Core.Path.{_≡_};
-ghost use Rattle.pic.specs.Calls.{handed, refused, sampleOf, loadOf, storeOf, csrReadOf, csrWriteOf, marginAnswer, captureOf};
+ghost use Rattle.pic.specs.Calls.{handed, refused, offsetRefusal, sampleOf, loadOf, storeOf, csrReadOf, csrWriteOf, marginAnswer, captureOf};
 use crate::Capture;
 use crate::Controller;
 use crate::Margin;
@@ -34,6 +34,19 @@ fn accept(c: Controller, a: u32) -> Outcome
     }
 }
 
+// Questions 10 and 11 of an offset: 0 where both are answered yes.
+fn offset_refusal(offset: u32) -> u8
+    ensures { λ r. ⌜ r ≡ offsetRefusal offset ⌝ }
+{
+    if 0x8000 <= offset {
+        return 10;
+    }
+    if offset % 4 != 0 {
+        return 11;
+    }
+    0
+}
+
 impl Controller {
     // The lines of word x take the bits of v.
     pub fn sample(mut self, x: u32, v: u32) -> Outcome
@@ -55,11 +68,9 @@ impl Controller {
         if !self.is_sound() {
             return refuse(self, 8);
         }
-        if 0x8000 <= offset {
-            return refuse(self, 10);
-        }
-        if offset % 4 != 0 {
-            return refuse(self, 11);
+        let q = offset_refusal(offset);
+        if q != 0 {
+            return refuse(self, q);
         }
         let a = self.read(register_at(self.sources, offset));
         accept(self, a)
@@ -72,11 +83,9 @@ impl Controller {
         if !self.is_sound() {
             return refuse(self, 8);
         }
-        if 0x8000 <= offset {
-            return refuse(self, 10);
-        }
-        if offset % 4 != 0 {
-            return refuse(self, 11);
+        let q = offset_refusal(offset);
+        if q != 0 {
+            return refuse(self, q);
         }
         let r = register_at(self.sources, offset);
         accept(self.write(r, v), 0)

@@ -1,0 +1,118 @@
+-- The listing of document 01: N 4 and ten events, as bytes and back, computed by the rules.
+use mathlib.Core.Bool.{cond}
+use mathlib.Core.Path.{_≡_, refl}
+use Prim.Native.Nat.{ℕ}
+use mathlib.Core.List.{List, [], _∷_}
+use lib.ListN.{length}
+use Rattle.event.specs.Event.{shapeOf}
+use Rattle.record.specs.Words.{wordsOf, bytesOfWords}
+use Rattle.record.specs.Record.{board, recordOf, countOf, sourcesOf, headsOf, valuesOf}
+use Rattle.record.specs.Questions.{walkFrom, readVerdict, writeVerdict}
+use Rattle.record.specs.Answers.{accepted, refused, readAnswer, writeAnswer}
+
+abbrev heads : List ℕ
+heads =
+    0x00022008
+    ∷ 0x00020008
+    ∷ 0x00000000
+    ∷ 0x00050000
+    ∷ 0x00090000
+    ∷ 0x00050000
+    ∷ 0x00060000
+    ∷ 0x00080000
+    ∷ 0x00090000
+    ∷ 0x00080000
+    ∷ []
+
+abbrev values : List ℕ
+values = 1 ∷ 5 ∷ 4 ∷ 0 ∷ 1 ∷ 0 ∷ 0 ∷ 0 ∷ 0 ∷ 0 ∷ []
+
+-- The 88 bytes: n and N, ten heads, ten values; a word to a line.
+abbrev bytes : List ℕ
+bytes =
+    0x0a ∷ 0x00 ∷ 0x00 ∷ 0x00
+    ∷ 0x04 ∷ 0x00 ∷ 0x00 ∷ 0x00
+    ∷ 0x08 ∷ 0x20 ∷ 0x02 ∷ 0x00
+    ∷ 0x08 ∷ 0x00 ∷ 0x02 ∷ 0x00
+    ∷ 0x00 ∷ 0x00 ∷ 0x00 ∷ 0x00
+    ∷ 0x00 ∷ 0x00 ∷ 0x05 ∷ 0x00
+    ∷ 0x00 ∷ 0x00 ∷ 0x09 ∷ 0x00
+    ∷ 0x00 ∷ 0x00 ∷ 0x05 ∷ 0x00
+    ∷ 0x00 ∷ 0x00 ∷ 0x06 ∷ 0x00
+    ∷ 0x00 ∷ 0x00 ∷ 0x08 ∷ 0x00
+    ∷ 0x00 ∷ 0x00 ∷ 0x09 ∷ 0x00
+    ∷ 0x00 ∷ 0x00 ∷ 0x08 ∷ 0x00
+    ∷ 0x01 ∷ 0x00 ∷ 0x00 ∷ 0x00
+    ∷ 0x05 ∷ 0x00 ∷ 0x00 ∷ 0x00
+    ∷ 0x04 ∷ 0x00 ∷ 0x00 ∷ 0x00
+    ∷ 0x00 ∷ 0x00 ∷ 0x00 ∷ 0x00
+    ∷ 0x01 ∷ 0x00 ∷ 0x00 ∷ 0x00
+    ∷ 0x00 ∷ 0x00 ∷ 0x00 ∷ 0x00
+    ∷ 0x00 ∷ 0x00 ∷ 0x00 ∷ 0x00
+    ∷ 0x00 ∷ 0x00 ∷ 0x00 ∷ 0x00
+    ∷ 0x00 ∷ 0x00 ∷ 0x00 ∷ 0x00
+    ∷ 0x00 ∷ 0x00 ∷ 0x00 ∷ 0x00
+    ∷ []
+
+pub eighty-eight : length bytes ≡ 88
+eighty-eight = refl
+
+pub listing-bytes : recordOf 4 heads values ≡ bytes
+unfolding bytesOfWords
+listing-bytes = refl
+
+pub listing-count : countOf bytes ≡ 10
+unfolding wordsOf
+listing-count = refl
+
+pub listing-sources : sourcesOf bytes ≡ 4
+unfolding wordsOf
+listing-sources = refl
+
+pub listing-heads : headsOf bytes ≡ heads
+unfolding wordsOf
+listing-heads = refl
+
+pub listing-values : valuesOf bytes ≡ values
+unfolding wordsOf
+listing-values = refl
+
+-- Written into 88 bytes.
+pub listing-written : writeAnswer board 4 heads values 88 ≡ accepted (88 ∷ [])
+unfolding writeVerdict walkFrom shapeOf
+listing-written = refl
+
+-- Read into arrays of ten places.
+pub listing-read : readAnswer board bytes 10 10 ≡ accepted (10 ∷ 4 ∷ [])
+unfolding readVerdict wordsOf walkFrom shapeOf
+listing-read = refl
+
+-- Refusals of reading, one for each question. Of several that fail the first decides: the second has N and n both too large.
+pub refused-1 : readAnswer board (0 ∷ 0 ∷ 0 ∷ 0 ∷ 4 ∷ 0 ∷ 0 ∷ []) 9 9 ≡ refused 1 0
+unfolding readVerdict wordsOf walkFrom shapeOf
+refused-1 = refl
+
+pub refused-2 : readAnswer board (255 ∷ 255 ∷ 255 ∷ 255 ∷ 255 ∷ 255 ∷ 255 ∷ 255 ∷ []) 9 9 ≡ refused 2 0
+unfolding readVerdict wordsOf walkFrom shapeOf
+refused-2 = refl
+
+pub refused-3 : readAnswer board (255 ∷ 255 ∷ 255 ∷ 255 ∷ 4 ∷ 0 ∷ 0 ∷ 0 ∷ []) 9 9 ≡ refused 3 0
+unfolding readVerdict wordsOf walkFrom shapeOf
+refused-3 = refl
+
+pub refused-4 : readAnswer board (1 ∷ 0 ∷ 0 ∷ 0 ∷ 4 ∷ 0 ∷ 0 ∷ 0 ∷ []) 9 9 ≡ refused 4 0
+unfolding readVerdict wordsOf walkFrom shapeOf
+refused-4 = refl
+
+pub refused-5 : readAnswer board bytes 10 9 ≡ refused 5 0
+unfolding readVerdict wordsOf walkFrom shapeOf
+refused-5 = refl
+
+-- Two events of which the second is of no kind; and the same with an address in the first, a take.
+pub refused-6 : readAnswer board (recordOf 4 (0x50000 ∷ 0xa0000 ∷ []) (0 ∷ 0 ∷ [])) 9 9 ≡ refused 6 1
+unfolding readVerdict wordsOf bytesOfWords walkFrom shapeOf
+refused-6 = refl
+
+pub refused-7 : readAnswer board (recordOf 4 (0x50001 ∷ 0xa0000 ∷ []) (0 ∷ 0 ∷ [])) 9 9 ≡ refused 7 0
+unfolding readVerdict wordsOf bytesOfWords walkFrom shapeOf
+refused-7 = refl

@@ -1,0 +1,136 @@
+-- The questions in order: the verdict of each no, and what follows where every one was answered yes.
+use mathlib.Core.Path.{_≡_, refl, sym}
+use mathlib.Core.Bool.{Bool, true, false, not, _&&_, true≢false}
+use Prim.Native.Nat.{ℕ, suc, _+_, _≤_, _<_}
+use native.Mathlib.Omega.{arith}
+use mathlib.Core.List.{List}
+use borrow.Author.Tests.{leb-true, eqb-true, le-leb, lt-leb, eq-eqb, ne-eqb, not-true, not-false}
+use lib.ListN.{length}
+use Rattle.record.specs.declared.Limits.{Limits}
+use Rattle.record.specs.declared.Verdict.{Verdict}
+use Rattle.record.specs.Record.{countOf, sourcesOf, headsOf, valuesOf, wordsFrom}
+use Rattle.record.specs.Questions.{verdict, ask, sourcesInRange, lengthOf, arraysHold, walk, readVerdict, writeVerdict}
+
+-- Reading: the verdict of each no, given the answers before it as the code has them.
+module _ (limits : Limits) (bytes : List ℕ) (hp vp : ℕ) where
+  pub read-no-1 : length bytes < 8 → verdict 1 0 ≡ readVerdict limits bytes hp vp
+  unfolding readVerdict
+  read-no-1 h = rw (lt-leb _ _ h)
+
+  module _ (q1 : 8 ≤ length bytes) {s : ℕ} {range : Bool} (es : s ≡ sourcesOf bytes) (er : range ≡ sourcesInRange limits s) where
+    pub read-no-2 : not range ≡ true → verdict 2 0 ≡ readVerdict limits bytes hp vp
+    unfolding readVerdict
+    read-no-2 h = rw (le-leb _ _ q1, ← es, ← er, not-true range h)
+
+    module _ (q2 : not range ≡ false) {n : ℕ} (en : n ≡ countOf bytes) where
+      pub read-no-3 : limits .events < n → verdict 3 0 ≡ readVerdict limits bytes hp vp
+      unfolding readVerdict
+      read-no-3 h = rw (le-leb _ _ q1, ← es, ← er, not-false range q2, ← en, lt-leb _ _ h)
+
+      module _ (q3 : n ≤ limits .events) where
+        pub read-no-4 : (length bytes ≡ lengthOf n → ⊥) → verdict 4 0 ≡ readVerdict limits bytes hp vp
+        unfolding readVerdict
+        read-no-4 h = rw (le-leb _ _ q1, ← es, ← er, not-false range q2, ← en, le-leb _ _ q3, ne-eqb _ _ h)
+
+        module _ (q4 : length bytes ≡ lengthOf n) where
+          pub read-no-5 : not (arraysHold n hp vp) ≡ true → verdict 5 0 ≡ readVerdict limits bytes hp vp
+          unfolding readVerdict
+          read-no-5 h = rw (le-leb _ _ q1, ← es, ← er, not-false range q2, ← en, le-leb _ _ q3, eq-eqb _ _ q4, not-true (arraysHold n hp vp) h)
+
+          pub read-walk : not (arraysHold n hp vp) ≡ false → walk (wordsFrom bytes 2 n) (wordsFrom bytes (2 + n) n) ≡ readVerdict limits bytes hp vp
+          unfolding readVerdict
+          read-walk h = rw (le-leb _ _ q1, ← es, ← er, not-false range q2, ← en, le-leb _ _ q3, eq-eqb _ _ q4, not-false (arraysHold n hp vp) h)
+
+-- Writing: the same.
+module _ (limits : Limits) (sources : ℕ) (heads values : List ℕ) (space : ℕ) {range : Bool} (er : range ≡ sourcesInRange limits sources) where
+  pub write-no-2 : not range ≡ true → verdict 2 0 ≡ writeVerdict limits sources heads values space
+  unfolding writeVerdict
+  write-no-2 h = rw (← er, not-true range h)
+
+  module _ (q2 : not range ≡ false) where
+    pub write-no-3 : limits .events < length heads → verdict 3 0 ≡ writeVerdict limits sources heads values space
+    unfolding writeVerdict
+    write-no-3 h = rw (← er, not-false range q2, lt-leb _ _ h)
+
+    module _ (q3 : length heads ≤ limits .events) where
+      pub write-no-4 : (length heads ≡ length values → ⊥) → verdict 4 0 ≡ writeVerdict limits sources heads values space
+      unfolding writeVerdict
+      write-no-4 h = rw (← er, not-false range q2, le-leb _ _ q3, ne-eqb _ _ h)
+
+      module _ (q4 : length heads ≡ length values) where
+        pub write-no-5 : space < lengthOf (length heads) → verdict 5 0 ≡ writeVerdict limits sources heads values space
+        unfolding writeVerdict
+        write-no-5 h = rw (← er, not-false range q2, le-leb _ _ q3, eq-eqb _ _ q4, lt-leb _ _ h)
+
+        pub write-walk : lengthOf (length heads) ≤ space → walk heads values ≡ writeVerdict limits sources heads values space
+        unfolding writeVerdict
+        write-walk h = rw (← er, not-false range q2, le-leb _ _ q3, eq-eqb _ _ q4, le-leb _ _ h)
+
+and-true : (a b : Bool) → a && b ≡ true → (a ≡ true) × (b ≡ true)
+and-true true true h = (refl, refl)
+and-true true false h = (refl, h)
+and-true false b h = (h, absurd (true≢false (sym h)))
+
+-- A question that did not refuse was answered yes, and so were those after it.
+ask-yes : (k : ℕ) (a : Bool) (v : Verdict) → ask (suc k) a v .refusal ≡ 0 → (a ≡ true) × (v .refusal ≡ 0)
+ask-yes k true v h = (refl, h)
+ask-yes k false v h = absurd (omega arith)
+
+-- The answers of an accepted reading.
+pub record Readable (limits : Limits) (bytes : List ℕ) (headPlaces valuePlaces : ℕ) : Type 0 where
+  pub sizes : 8 ≤ length bytes
+  pub two : 2 ≤ sourcesOf bytes
+  pub most : sourcesOf bytes ≤ limits .sources
+  pub few : countOf bytes ≤ limits .events
+  pub whole : length bytes ≡ lengthOf (countOf bytes)
+  pub headsHold : countOf bytes ≤ headPlaces
+  pub valuesHold : countOf bytes ≤ valuePlaces
+  pub events : walk (headsOf bytes) (valuesOf bytes) .refusal ≡ 0
+
+pub readable : (limits : Limits) (bytes : List ℕ) (hp vp : ℕ) → readVerdict limits bytes hp vp .refusal ≡ 0 → Readable limits bytes hp vp
+unfolding readVerdict
+readable limits bytes hp vp h =
+    let q1 = ask-yes 0 _ _ h in
+    let q2 = ask-yes 1 _ _ (q1 .1) in
+    let q3 = ask-yes 2 _ _ (q2 .1) in
+    let q4 = ask-yes 3 _ _ (q3 .1) in
+    let q5 = ask-yes 4 _ _ (q4 .1) in
+    let range = and-true _ _ (q2 .0) in
+    let hold = and-true _ _ (q5 .0) in
+    record {
+      sizes = leb-true _ _ (q1 .0);
+      two = leb-true _ _ (range .0);
+      most = leb-true _ _ (range .1);
+      few = leb-true _ _ (q3 .0);
+      whole = eqb-true _ _ (q4 .0);
+      headsHold = leb-true _ _ (hold .0);
+      valuesHold = leb-true _ _ (hold .1);
+      events = q5 .1;
+    }
+
+-- The answers of an accepted writing.
+pub record Writable (limits : Limits) (sources : ℕ) (heads values : List ℕ) (space : ℕ) : Type 0 where
+  pub two : 2 ≤ sources
+  pub most : sources ≤ limits .sources
+  pub few : length heads ≤ limits .events
+  pub same : length heads ≡ length values
+  pub holds : lengthOf (length heads) ≤ space
+  pub events : walk heads values .refusal ≡ 0
+
+pub writable : (limits : Limits) (sources : ℕ) (heads values : List ℕ) (space : ℕ) → writeVerdict limits sources heads values space .refusal ≡ 0
+    → Writable limits sources heads values space
+unfolding writeVerdict
+writable limits sources heads values space h =
+    let q2 = ask-yes 1 _ _ h in
+    let q3 = ask-yes 2 _ _ (q2 .1) in
+    let q4 = ask-yes 3 _ _ (q3 .1) in
+    let q5 = ask-yes 4 _ _ (q4 .1) in
+    let range = and-true _ _ (q2 .0) in
+    record {
+      two = leb-true _ _ (range .0);
+      most = leb-true _ _ (range .1);
+      few = leb-true _ _ (q3 .0);
+      same = eqb-true _ _ (q4 .0);
+      holds = leb-true _ _ (q5 .0);
+      events = q5 .1;
+    }

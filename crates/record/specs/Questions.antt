@@ -1,0 +1,72 @@
+-- Document 01, "Questions, first no decides": 1 to 7, reading and writing.
+use Prim.Native.Nat.{ℕ, suc, _+_, _*_}
+use mathlib.Core.Bool.{Bool, _&&_, cond}
+use mathlib.Core.List.{List, [], _∷_}
+use lib.ListN.{length}
+use lib.Dec.{leb, eqb}
+use Rattle.event.specs.Event.{shapeOf}
+use Rattle.record.specs.declared.Limits.{Limits}
+use Rattle.record.specs.declared.Verdict.{Verdict}
+use Rattle.record.specs.Record.{countOf, sourcesOf, headsOf, valuesOf}
+
+-- The number of the question that was answered no, and the place.
+abbrev pub verdict : ℕ → ℕ → Verdict
+verdict number at = record { refusal = number; place = at }
+
+-- Every question was answered yes.
+abbrev pub noRefusal : Verdict
+noRefusal = verdict 0 0
+
+-- First no decides: on yes the questions after this one are asked. For 1 to 5 the place is 0.
+abbrev pub ask : ℕ → Bool → Verdict → Verdict
+ask number answer next = cond answer next (verdict number 0)
+
+-- 1. Reading: is it at least 8 bytes?
+abbrev pub holdsSizes : List ℕ → Bool
+holdsSizes bytes = leb 8 (length bytes)
+
+-- 2. Is N in 2..255?
+abbrev pub sourcesInRange : Limits → ℕ → Bool
+sourcesInRange limits sources = leb 2 sources && leb sources (limits .sources)
+
+-- 3. Is n at most 4,000?
+abbrev pub countInRange : Limits → ℕ → Bool
+countInRange limits n = leb n (limits .events)
+
+-- The length of a record of n events: 8 + 8 × n.
+abbrev pub lengthOf : ℕ → ℕ
+lengthOf n = 8 + 8 * n
+
+-- 5. Does the destination hold it all (reading: n places in each array)?
+abbrev pub arraysHold : ℕ → ℕ → ℕ → Bool
+arraysHold n headPlaces valuePlaces = leb n headPlaces && leb n valuePlaces
+
+-- Questions 6 and 7 go event by event; the walk ends at the first event that fails a check and gives its index.
+unfoldable pub walkFrom : ℕ → List ℕ → List ℕ → Verdict
+walkFrom i [] values = noRefusal
+walkFrom i (head ∷ heads) [] = noRefusal
+walkFrom i (head ∷ heads) (value ∷ values) =
+    cond (eqb (shapeOf head value) 0) (walkFrom (suc i) heads values) (verdict (shapeOf head value) i)
+
+-- The index is from 0.
+abbrev pub walk : List ℕ → List ℕ → Verdict
+walk = walkFrom 0
+
+-- Questions 1 to 7, reading.
+unfoldable pub readVerdict : Limits → List ℕ → ℕ → ℕ → Verdict
+readVerdict limits bytes headPlaces valuePlaces =
+    ask 1 (holdsSizes bytes)
+    (ask 2 (sourcesInRange limits (sourcesOf bytes))
+    (ask 3 (countInRange limits (countOf bytes))
+    (ask 4 (eqb (length bytes) (lengthOf (countOf bytes)))
+    (ask 5 (arraysHold (countOf bytes) headPlaces valuePlaces)
+    (walk (headsOf bytes) (valuesOf bytes))))))
+
+-- Questions 2 to 7, writing: 4 is whether heads and values are equally many (n is the heads).
+unfoldable pub writeVerdict : Limits → ℕ → List ℕ → List ℕ → ℕ → Verdict
+writeVerdict limits sources heads values space =
+    ask 2 (sourcesInRange limits sources)
+    (ask 3 (countInRange limits (length heads))
+    (ask 4 (eqb (length heads) (length values))
+    (ask 5 (leb (lengthOf (length heads)) space)
+    (walk heads values))))

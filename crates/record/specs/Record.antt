@@ -1,0 +1,35 @@
+-- Document 01, "The record": its bytes, and the limits of the board.
+use mathlib.Core.Bool.{cond}
+use Prim.Native.Nat.{ℕ, _+_}
+use mathlib.Core.List.{List, _∷_, _++_}
+use lib.ListN.{length, getD, take, drop}
+use Rattle.record.specs.declared.Limits.{Limits}
+use Rattle.record.specs.Words.{wordsOf, bytesOfWords}
+
+-- N in 2..255; n at most 4,000.
+abbrev pub board : Limits
+board = record { sources = 255; events = 4000 }
+
+-- Sizes, then two arrays, all 32-bit little-endian: event count n, N, n heads, n values.
+abbrev pub recordOf : ℕ → List ℕ → List ℕ → List ℕ
+recordOf sources heads values = bytesOfWords (length heads ∷ sources ∷ heads ++ values)
+
+-- The event count n of a record: its first word.
+abbrev pub countOf : List ℕ → ℕ
+countOf bytes = getD (wordsOf bytes) 0 0
+
+-- N: its second word.
+abbrev pub sourcesOf : List ℕ → ℕ
+sourcesOf bytes = getD (wordsOf bytes) 1 0
+
+-- n words from word k on.
+abbrev pub wordsFrom : List ℕ → ℕ → ℕ → List ℕ
+wordsFrom bytes k n = take n (drop k (wordsOf bytes))
+
+-- n heads: the words after the sizes.
+abbrev pub headsOf : List ℕ → List ℕ
+headsOf bytes = wordsFrom bytes 2 (countOf bytes)
+
+-- n values: the words after the heads.
+abbrev pub valuesOf : List ℕ → List ℕ
+valuesOf bytes = wordsFrom bytes (2 + countOf bytes) (countOf bytes)
