@@ -6,6 +6,7 @@ use mathlib.Core.List.{List}
 use native.Mathlib.Omega.{arith}
 use lib.ListN.{length, getD, set, replicate, length-replicate, getD-replicate}
 use lib.Dec.{leb, ltb, eqb}
+use lib.IntN.{pos}
 use borrow.Author.Tests.{leb-true}
 use Rattle.pic.specs.declared.Controller.{Controller}
 use Rattle.pic.specs.declared.Outcome.{Outcome}
@@ -16,10 +17,10 @@ use Rattle.pic.specs.declared.Csr.{Csr}
 use Rattle.pic.specs.declared.Csr.the-variants.{Meivt, Meipt, Meicpct, Meicidpl, Meicurpl, Meihap, NoCsr}
 use Rattle.pic.specs.Fields.{withCurrent}
 use Rattle.pic.specs.Ranks.{fieldOf, field, rankOf}
-use Rattle.pic.specs.Sources.{isSource, settle, winnerOf, captured}
+use Rattle.pic.specs.Sources.{isSource, settle, winnerOf, marginOf, captured}
 use Rattle.pic.specs.Sound.{initial, isCount, soundOf}
 use Rattle.pic.specs.Registers.{bitOf, linesTo, sampled, registerAt, readOf, writtenRank, writtenOf, csrAt, isCsr, csrValue, csrWritten}
-use Rattle.pic.specs.Calls.{handed, accepted, refused, ask, offsetRefusal, powerOnOf, sampleOf, loadOf, storeOf, csrReadOf, csrWriteOf, capturing, notCaptured, captureOf}
+use Rattle.pic.specs.Calls.{handed, accepted, refused, ask, offsetRefusal, powerOnOf, sampleOf, loadOf, storeOf, csrReadOf, csrWriteOf, marginAnswer, capturing, notCaptured, captureOf}
 use Rattle.pic.proofs.Bools.{and-parts, never}
 use Rattle.pic.proofs.Offsets.{csr-address}
 use Rattle.pic.proofs.Mirror.{mirror-small, rank-written}
@@ -268,6 +269,17 @@ capture-parts c = go (soundOf c)
     go true = (refl, refl, refl)
     go false = (refl, refl, refl)
 
+-- Another current rank in range keeps a controller sound.
+pub current-sound : (c : Controller) (r : Rank) → soundOf c ≡ true → r .0 ≤ 15 → soundOf (withCurrent c r) ≡ true
+current-sound c r e h =
+    let f = facts c e in
+    let a = f .inRange .scalars in
+    sound (withCurrent c r)
+    (record {
+      inRange = record { columns = f .inRange .columns; scalars = (a .0, a .1, a .2, a .3, a .4, a .5, a .6, h) };
+      latched = f .latched;
+    })
+
 -- A write to meicurpl of a rank's field makes that rank the current one, and changes nothing else.
 pub current-written : (c : Controller) (r : Rank) → soundOf c ≡ true → r .0 ≤ 15 → csrWriteOf c 0xBCC (fieldOf (c .priord) r .0) ≡ handed (withCurrent c r) 0
 unfolding csrWriteOf csrAt csrWritten
@@ -303,3 +315,42 @@ module _ (c : Controller) where
       asked-unchanged c (soundOf c) 8 _
       (asked-unchanged c (isCsr (csrAt a)) 12 _
       (asked-unchanged c (not (eqb a 0xFC8)) 13 _ (accepted-unchanged c (csrWritten c (csrAt a) v) 0)))
+
+-- 8 comes first: an unsound controller is handed back with it.
+module _ (c : Controller) (e : soundOf c ≡ false) where
+  pub sample-8 : (x v : ℕ) → sampleOf c x v ≡ refused c 8
+  unfolding sampleOf
+  sample-8 x v = rw e
+
+  pub load-8 : (o : ℕ) → loadOf c o ≡ refused c 8
+  unfolding loadOf
+  load-8 o = rw e
+
+  pub store-8 : (o v : ℕ) → storeOf c o v ≡ refused c 8
+  unfolding storeOf
+  store-8 o v = rw e
+
+  pub csr-read-8 : (a : ℕ) → csrReadOf c a ≡ refused c 8
+  unfolding csrReadOf
+  csr-read-8 a = rw e
+
+  pub csr-write-8 : (a v : ℕ) → csrWriteOf c a v ≡ refused c 8
+  unfolding csrWriteOf
+  csr-write-8 a v = rw e
+
+  pub capture-8 : captureOf c ≡ notCaptured c 8
+  unfolding captureOf
+  capture-8 = rw e
+
+  pub margin-8 : marginAnswer c ≡ record { margin = pos 0; refusal = 8 }
+  unfolding marginAnswer
+  margin-8 = rw e
+
+-- On a sound controller a capture captures, and the query gives the margin.
+pub capture-is : (c : Controller) → soundOf c ≡ true → captureOf c ≡ capturing c
+unfolding captureOf
+capture-is c e = rw e
+
+pub margin-is : (c : Controller) → soundOf c ≡ true → marginAnswer c ≡ record { margin = marginOf c; refusal = 0 }
+unfolding marginAnswer
+margin-is c e = rw e

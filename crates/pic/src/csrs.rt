@@ -2,12 +2,14 @@
 
 ghost use mathlib.Core.Path.{_≡_};
 ghost use mathlib.Core.Bool.{true};
+ghost use Rattle.pic.specs.Fields.{withCurrent};
 ghost use Rattle.pic.specs.Sources.{settle, captured};
 ghost use Rattle.pic.specs.Sound.{soundOf};
 ghost use Rattle.pic.specs.Registers.{csrAt, csrValue, csrWritten, isCsr};
 use crate::Controller;
 use crate::Csr;
 use crate::Field;
+use crate::Rank;
 use crate::ranks::to_field;
 use crate::ranks::to_rank;
 
@@ -64,6 +66,14 @@ impl Controller {
         let r = w.rank;
         self.claim = w.source;
         self.claimed = r;
+        self
+    }
+
+    // The controller with another current rank.
+    pub fn with_current(mut self, rank: Rank) -> Controller
+        ensures { λ c. ⌜ c ≡ withCurrent self rank ⌝ }
+    {
+        self.current = rank;
         self
     }
 
