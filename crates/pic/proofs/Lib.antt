@@ -10,6 +10,7 @@ pub mod Offsets
 pub mod Kept
 pub mod Words
 pub mod Margins
+pub mod Captures
 pub mod Writes
 pub mod Turns
 pub mod Points

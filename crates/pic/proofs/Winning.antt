@@ -5,7 +5,7 @@ use mathlib.Core.Bool.{Bool, true, false, cond, _&&_}
 use mathlib.Core.Logic.{_⊎_, inl, inr, ⊎-elim}
 use native.Mathlib.Omega.{arith}
 use lib.Dec.{leb, ltb, eqb}
-use borrow.Author.Tests.{ltb-true, ltb-false, leb-true, le-ltb}
+use borrow.Author.Tests.{ltb-true, ltb-false, leb-true, le-ltb, le-leb, eq-eqb}
 use Rattle.pic.specs.declared.Controller.{Controller}
 use Rattle.pic.specs.declared.Rank.{Rank}
 use Rattle.pic.specs.declared.Winner.{Winner}
@@ -102,3 +102,8 @@ winner-small c h = go (winner-is c)
     go (inl s) =
         (s .eligible .most, rw (s .ranked) (h .inRange .columns .0 .each (winnerOf c .source) (s .eligible .least) (s .eligible .most)))
     go (inr i) = rw (i .nobody-won) (omega arith, omega arith)
+
+-- And back.
+pub eligible-is : (c : Controller) (s : ℕ) → enableAt c s ≡ 1 → pendingAt c s ≡ true → 1 ≤ rankAt c s .0 → eligibleAt c s ≡ true
+unfolding isEligible
+eligible-is c s e p h = rw (eq-eqb (enableAt c s) 1 e, p, le-leb 1 (rankAt c s .0) h)
