@@ -31,14 +31,14 @@ pub fn to_rank(priord: u8, field: Field) -> Rank
 }
 
 // The larger of two ranks.
-pub fn higher(a: Rank, b: Rank) -> Rank
+pub(crate) fn higher(a: Rank, b: Rank) -> Rank
     ensures { λ r. ⌜ r ≡ higherOf a b ⌝ }
 {
     if a.0 < b.0 { b } else { a }
 }
 
 // The first rank minus the second.
-pub fn gap(a: Rank, b: Rank) -> i32
+pub(crate) fn gap(a: Rank, b: Rank) -> i32
     ensures { λ r. ⌜ r ≡ gapOf a b ⌝ }
 {
     (a.0 as i32) - (b.0 as i32)

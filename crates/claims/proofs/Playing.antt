@@ -1,0 +1,132 @@
+-- Lists of events played: one event more, and the claim for the list that was played.
+use Prim.Native.Nat.{ℕ, zero, suc, _+_, _-_, _%_, _^_, _≤_, _<_}
+use mathlib.Core.Path.{_≡_, refl, sym, ap, _∙_}
+use mathlib.Core.Bool.{Bool, true, false, cond}
+use mathlib.Core.List.{List, [], _∷_, _++_, append-assoc}
+use native.Mathlib.Numerals.{add-one}
+use native.Mathlib.Omega.{arith}
+use lib.ListN.{length, getD, take, drop, set, length-append, length-set}
+use lib.Seq.{drop-cons, set-append-seam, getD-take, length-take-le}
+use lib.Dec.{ltb}
+use borrow.Author.Tests.{ltb-true, ltb-false}
+use Rattle.nesting.specs.Claim as claim
+use Rattle.handlers.specs.declared.Machine.{Machine}
+use Rattle.handlers.specs.declared.Outcome.{Outcome}
+use Rattle.handlers.specs.Machines.{powerOnOf}
+use Rattle.handlers.specs.Service.{stepOf}
+use Rattle.claims.specs.declared.Played.{Played}
+use Rattle.claims.specs.Play.{least, endOf, eachOf, filled, countOf, playedOf}
+use Rattle.claims.specs.Nested.{Event, word, eh1, eventsOf, Claimed}
+use Rattle.claims.proofs.Laws.{demand-3}
+
+-- The lesser of two is at most each of them.
+pub least-both : (a b : ℕ) → (least a b ≤ a) × (least a b ≤ b)
+unfolding least
+least-both a b = go (ltb b a) refl
+  where
+    go : (t : Bool) → ltb b a ≡ t → (cond t b a ≤ a) × (cond t b a ≤ b)
+    go true e = let l = ltb-true b a e in (omega arith, omega arith)
+    go false e = let l = ltb-false b a e in (omega arith, l)
+
+-- As many events as all four have places.
+pub record Fits (k a b c d : ℕ) : Type 0 where
+  pub heads : k ≤ a
+  pub values : k ≤ b
+  pub answers : k ≤ c
+  pub refusals : k ≤ d
+
+pub count-fits : (a b c d : ℕ) → Fits (countOf a b c d) a b c d
+count-fits a b c d =
+    let p = least-both a b in
+    let q = least-both c d in
+    let r = least-both (least a b) (least c d) in
+    record { heads = omega (arith, p .0, r .0); values = omega (arith, p .1, r .0); answers = omega (arith, q .0, r .1); refusals = omega (arith, q .1, r .1) }
+
+-- One event more.
+pub end-more : (m : Machine) (i : ℕ) (hs vs : List ℕ) → i < length hs → i < length vs
+    → stepOf (endOf m (take i hs) (take i vs)) (getD hs i 0) (getD vs i 0) .machine ≡ endOf m (take (suc i) hs) (take (suc i) vs)
+unfolding endOf
+end-more m i [] vs a b = absurd (omega arith)
+end-more m i (h ∷ hs) [] a b = absurd (omega arith)
+end-more m zero (h ∷ hs) (v ∷ vs) a b = refl
+end-more m (suc i) (h ∷ hs) (v ∷ vs) a b = end-more (stepOf m h v .machine) i hs vs (omega arith) (omega arith)
+
+pub each-more : (out : Outcome → ℕ) (m : Machine) (i : ℕ) (hs vs : List ℕ) → i < length hs → i < length vs
+    → eachOf out m (take i hs) (take i vs) ++ (out (stepOf (endOf m (take i hs) (take i vs)) (getD hs i 0) (getD vs i 0)) ∷ [])
+    ≡ eachOf out m (take (suc i) hs) (take (suc i) vs)
+unfolding endOf eachOf
+each-more out m i [] vs a b = absurd (omega arith)
+each-more out m i (h ∷ hs) [] a b = absurd (omega arith)
+each-more out m zero (h ∷ hs) (v ∷ vs) a b = refl
+each-more out m (suc i) (h ∷ hs) (v ∷ vs) a b =
+    ap (λ (l : List ℕ). out (stepOf m h v) ∷ l) (each-more out (stepOf m h v .machine) i hs vs (omega arith) (omega arith))
+
+pub each-length : (out : Outcome → ℕ) (m : Machine) (i : ℕ) (hs vs : List ℕ) → i ≤ length hs → i ≤ length vs → length (eachOf out m (take i hs) (take i vs)) ≡ i
+unfolding eachOf
+each-length out m zero hs vs a b = refl
+each-length out m (suc i) [] vs a b = absurd (omega arith)
+each-length out m (suc i) (h ∷ hs) [] a b = absurd (omega arith)
+each-length out m (suc i) (h ∷ hs) (v ∷ vs) a b = ap suc (each-length out (stepOf m h v .machine) i hs vs (omega arith) (omega arith))
+
+-- One place more is filled.
+pub filled-more : (new old : List ℕ) (v : ℕ) → length new < length old → set (filled new old) (length new) v ≡ filled (new ++ (v ∷ [])) old
+filled-more new old v h =
+    let l : length (new ++ (v ∷ [])) ≡ suc (length new) = length-append new (v ∷ []) ∙ omega arith in
+    rw (drop-cons old (length new) 0 h, set-append-seam new (getD old (length new) 0) (drop (suc (length new)) old) v, l) (sym (append-assoc new (v ∷ []) (drop (suc (length new)) old)))
+
+-- One turn of `play`.
+module _ (m₀ : Machine) (hs vs : List ℕ) (i : ℕ) (a : i < length hs) (b : i < length vs) {m : Machine} (hm : m ≡ endOf m₀ (take i hs) (take i vs)) where
+  pub machine-turn : {o : Outcome} → o ≡ stepOf m (getD hs i 0) (getD vs i 0) → o .machine ≡ endOf m₀ (take (i + 1) hs) (take (i + 1) vs)
+  machine-turn ho = rw (ho, hm, add-one) (end-more m₀ i hs vs a b)
+
+  pub stored-turn : (out : Outcome → ℕ) (old : List ℕ) {o : Outcome} {l : List ℕ} → o ≡ stepOf m (getD hs i 0) (getD vs i 0) → i < length old
+      → l ≡ filled (eachOf out m₀ (take i hs) (take i vs)) old → set l i (out o) ≡ filled (eachOf out m₀ (take (i + 1) hs) (take (i + 1) vs)) old
+  stored-turn out old {o} {l} ho c hl =
+      let e : length (eachOf out m₀ (take i hs) (take i vs)) ≡ i = each-length out m₀ i hs vs (omega arith) (omega arith) in
+      let w : out o ≡ out (stepOf (endOf m₀ (take i hs) (take i vs)) (getD hs i 0) (getD vs i 0)) = rw (ho, hm) in
+      rw (hl, add-one, ← each-more out m₀ i hs vs a b, ← w)
+      (ap (λ (j : ℕ). set (filled (eachOf out m₀ (take i hs) (take i vs)) old) j (out o)) (sym e)
+      ∙ filled-more (eachOf out m₀ (take i hs) (take i vs)) old (out o) (omega arith))
+
+-- The list's last machine, for heads and values of 32 bits.
+abbrev Words : List ℕ → Type 0
+Words l = (i : ℕ) → getD l i 0 < 2 ^ 32
+
+pub end-is : (m : Machine) (hs vs : List ℕ) → Words hs → Words vs → endOf m hs vs ≡ claim.end eh1 m (eventsOf hs vs)
+unfolding endOf
+end-is m [] vs a b = refl
+end-is m (h ∷ hs) [] a b = refl
+end-is m (h ∷ hs) (v ∷ vs) a b =
+    let p : word h ≡ h = omega (arith, a 0) in
+    let q : word v ≡ v = omega (arith, b 0) in
+    let s : stepOf m h v .machine ≡ stepOf m (word h) (word v) .machine =
+    ap (λ (x : ℕ). stepOf m x v .machine) (sym p) ∙ ap (λ (x : ℕ). stepOf m (word h) x .machine) (sym q) in
+    end-is (stepOf m h v .machine) hs vs (λ i. a (suc i)) (λ i. b (suc i)) ∙ ap (λ (n : Machine). claim.end eh1 n (eventsOf hs vs)) s
+
+take-words : (k : ℕ) (l : List ℕ) → Words l → Words (take k l)
+take-words zero l a i = omega arith
+take-words (suc k) [] a i = omega arith
+take-words (suc k) (x ∷ l) a zero = a 0
+take-words (suc k) (x ∷ l) a (suc i) = take-words k l (λ j. a (suc j)) i
+
+-- Demand 3 for the list that was played.
+pub claimed : (n k : ℕ) (hs vs : List ℕ) → Words hs → Words vs → {m : Machine} → m ≡ endOf (powerOnOf n .machine) (take k hs) (take k vs)
+    → Claimed n (take k hs) (take k vs) m
+claimed n k hs vs a b e =
+    record {
+      ends = e ∙ end-is (powerOnOf n .machine) (take k hs) (take k vs) (take-words k hs a) (take-words k vs b);
+      nested = demand-3 n (eventsOf (take k hs) (take k vs));
+    }
+
+-- What `play` hands back, once its loop has ended.
+module _ (n : ℕ) (hs vs : List ℕ) {on : Outcome} {m : Machine} {k i : ℕ} (ho : on ≡ powerOnOf n) (hi : i ≡ k)
+    (hm : m ≡ endOf (on .machine) (take i hs) (take i vs)) where
+  pub machine-end : m ≡ endOf (powerOnOf n .machine) (take k hs) (take k vs)
+  machine-end = hm ∙ rw (ho, hi)
+
+  pub played-end : {count : ℕ} → k ≡ count → _≡_ {A = Played} (record { machine = m; events = k; refusal = on .refusal }) (playedOf n count hs vs)
+  played-end hk = rw (machine-end, ho, ← hk)
+
+  pub stored-end : (out : Outcome → ℕ) (old : List ℕ) {l : List ℕ} → l ≡ filled (eachOf out (on .machine) (take i hs) (take i vs)) old
+      → l ≡ filled (eachOf out (powerOnOf n .machine) (take k hs) (take k vs)) old
+  stored-end out old hl = hl ∙ rw (ho, hi)

@@ -1,0 +1,97 @@
+-- Demand 3 of document 01 for this machine: the words of the claim that are the machine's own, and the claim itself.
+use Prim.Native.Nat.{ℕ, _+_, _*_, _%_, _^_, _≤_, _<_}
+use mathlib.Core.Path.{_≡_}
+use mathlib.Core.Bool.{Bool, true, false, cond}
+use mathlib.Core.Logic.{_⊎_}
+use mathlib.Core.List.{List, [], _∷_}
+use lib.ListN.{length}
+use lib.Dec.{eqb}
+use Rattle.event.specs.Event.{kindOf}
+use Rattle.pic.specs.declared.Controller.{Controller}
+use Rattle.pic.specs.Sources.{rankAt, enableAt, pendingAt}
+use Rattle.nesting.specs.Claim.{Class, isTaking, isChaining, isReturn, isOther}
+use Rattle.nesting.specs.Claim as claim
+use Rattle.nesting.specs.Held.{held}
+use Rattle.handlers.specs.declared.Handler.{Handler}
+use Rattle.handlers.specs.declared.Machine.{Machine}
+use Rattle.handlers.specs.declared.Outcome.{Outcome}
+use Rattle.handlers.specs.Machines.{soundOf, powerOnOf}
+use Rattle.handlers.specs.Service.{stepOf}
+
+-- An event is a head and a value, 32 bits each: a number with more bits stands for its lowest 32.
+pub record Event : Type 0 where
+  pub head : ℕ
+  pub value : ℕ
+
+abbrev pub word : ℕ → ℕ
+word n = n % 2 ^ 32
+
+-- What an event answered, with its refusal.
+pub record Answer : Type 0 where
+  pub answer : ℕ
+  pub refusal : ℕ
+
+abbrev pub answerOf : Outcome → Answer
+answerOf o = record { answer = o .answer; refusal = o .refusal }
+
+-- A taking is an accepted take. A chaining is an accepted chain whose answer isn't 0. A return is an accepted one.
+abbrev pub classBy : ℕ → Answer → Class
+classBy kind a =
+    cond (eqb (a .refusal) 0)
+    (cond (eqb kind 5) isTaking (cond (eqb kind 7) (cond (eqb (a .answer) 0) isOther isChaining) (cond (eqb kind 8) isReturn isOther)))
+    isOther
+
+-- A handler as the claim sees it: the mark of Open is not seen.
+abbrev pub seen : Handler → claim.Handler ℕ ℕ ℕ
+seen h = record { source = h .source; rank = h .rank .0; saved = h .saved .0 }
+
+-- The source was the one to serve: enabled, pending and above the threshold, and every other enabled pending source is of a lower rank, or of the same
+-- rank and a higher number.
+pub record Won (c : Controller) (s : ℕ) : Type 0 where
+  pub least : 1 ≤ s
+  pub most : s ≤ c .sources
+  pub enabled : enableAt c s ≡ 1
+  pub pending : pendingAt c s ≡ true
+  pub above : c .threshold .0 < rankAt c s .0
+  pub best : (t : ℕ) → 1 ≤ t → t ≤ c .sources → enableAt c t ≡ 1 → pendingAt c t ≡ true → (t ≡ s → ⊥)
+      → (rankAt c t .0 < rankAt c s .0) ⊎ ((rankAt c t .0 ≡ rankAt c s .0) × (s < t))
+
+-- The machine, for the theory of nested handlers: the source that an answer names is S for base + 4 × S, base as it was just before; its rank is the rank
+-- of S just before; ranks are numbers from 1 to 15.
+abbrev pub eh1 : claim.Machine
+eh1 =
+    record {
+      State = Machine;
+      Event = Event;
+      Answer = Answer;
+      Source = ℕ;
+      Rank = ℕ;
+      Level = ℕ;
+      next = λ m e. stepOf m (word (e .head)) (word (e .value)) .machine;
+      answer = λ m e. answerOf (stepOf m (word (e .head)) (word (e .value)));
+      class = λ e a. classBy (kindOf (word (e .head))) a;
+      stack = λ m. held seen (m .stack) (m .depth);
+      current = λ m. m .controller .current .0;
+      Sound = λ m. (soundOf m ≡ true) × (length (m .stack) ≡ 15);
+      Names = λ m a s. a .answer ≡ m .controller .base + 4 * s;
+      rankOf = λ m s. rankAt (m .controller) s .0;
+      Won = λ m s. Won (m .controller) s;
+      Below = λ a b. a < b;
+      height = λ r. r;
+      most = 15;
+    }
+
+-- Demand 3: for every N, also one that power-on refuses, and every list of events.
+abbrev pub Demand3 : Type 0
+Demand3 = (n : ℕ) (es : List Event) → claim.Nested eh1 (powerOnOf n .machine) es
+
+-- The events of two lists, heads beside values.
+abbrev pub eventsOf : List ℕ → List ℕ → List Event
+eventsOf [] values = []
+eventsOf (head ∷ heads) [] = []
+eventsOf (head ∷ heads) (value ∷ values) = record { head = head; value = value } ∷ eventsOf heads values
+
+-- The claim about a list that was played from power-on with N to a machine: that machine is the last of the list, and demand 3 holds of the list.
+pub record Claimed (n : ℕ) (heads values : List ℕ) (m : Machine) : Type 0 where
+  pub ends : m ≡ claim.end eh1 (powerOnOf n .machine) (eventsOf heads values)
+  pub nested : claim.Nested eh1 (powerOnOf n .machine) (eventsOf heads values)

@@ -1,0 +1,6 @@
+-- Laws of the handler service.
+pub mod Stacks
+pub mod Facts
+pub mod Answers
+pub mod Kept
+pub mod Refused

@@ -1,0 +1,1273 @@
+//! Test records from a seed, in families.
+
+use crate::event::*;
+use crate::machine::*;
+use crate::random::Random;
+use crate::record::{lay_out, Record, MOST_EVENTS};
+use crate::script::{choose_count, Script, Weights, EVEN};
+
+pub struct Generated {
+    pub family: &'static str,
+    pub bytes: Vec<u8>,
+}
+
+type Family = (&'static str, fn(&mut Random) -> Vec<u8>);
+
+pub const FAMILIES: &[Family] = &[
+    ("no events", no_events),
+    ("one event", one_event),
+    ("short", short),
+    ("mixed", mixed),
+    ("long", long),
+    ("plain random", plain_random),
+    ("offsets", offsets),
+    ("csr addresses", csr_addresses),
+    ("question order", question_order),
+    ("nesting", nesting),
+    ("nesting, one source", nesting_one_source),
+    ("nesting, wandering", nesting_wandering),
+    ("chains", chains),
+    ("priority order", priority_order),
+    ("thresholds", thresholds),
+    ("gateways", gateways),
+    ("current", current),
+    ("mask", mask),
+    ("ties", ties),
+    ("claims", claims),
+    ("winners", winners),
+    ("sources beyond N", beyond),
+    ("samples", samples),
+    ("truncated", truncated),
+    ("extended", extended),
+    ("wrong count", wrong_count),
+    ("count near 2^32", huge_count),
+    ("wrong sources", wrong_sources),
+    ("flipped bits", flipped),
+    ("tiny", tiny),
+    ("too long", too_long),
+    ("unknown kind", unknown_kind),
+    ("unused parts", unused_parts),
+    ("kind and unused parts", kind_and_unused),
+    ("several faults", several_faults),
+    ("noise", noise),
+];
+
+/// Record `index` of `seed`. Every round goes through all families, each round from another start.
+pub fn generate(seed: u64, index: u64) -> Generated {
+    let size = FAMILIES.len() as u64;
+    let place = (index % size + index / size) % size;
+    let (family, build) = FAMILIES[place as usize];
+    let mut random = Random::for_index(seed, index);
+    Generated {
+        family,
+        bytes: build(&mut random),
+    }
+}
+
+fn bytes_of(record: &Record) -> Vec<u8> {
+    let heads: Vec<u32> = record.events.iter().map(|event| event.head).collect();
+    let values: Vec<u32> = record.events.iter().map(|event| event.value).collect();
+    lay_out(heads.len() as u32, record.sources, &heads, &values)
+}
+
+fn finish(script: Script) -> Vec<u8> {
+    bytes_of(&script.record())
+}
+
+// Valid records.
+
+fn no_events(random: &mut Random) -> Vec<u8> {
+    lay_out(0, choose_count(random), &[], &[])
+}
+
+fn one_event(random: &mut Random) -> Vec<u8> {
+    let mut script = Script::new(random);
+    script.room = 1;
+    let even = Weights {
+        boundary: 30,
+        refused: 30,
+        blind: 30,
+        ..EVEN
+    };
+    script.wander(&even, 1);
+    finish(script)
+}
+
+fn short(random: &mut Random) -> Vec<u8> {
+    let mut script = Script::new(random);
+    script.room = random.between(2, 24) as usize;
+    let room = script.room;
+    script.wander(&EVEN, room);
+    finish(script)
+}
+
+fn some_weights(random: &mut Random) -> Weights {
+    Weights {
+        sample: random.below(12),
+        line: random.between(1, 20),
+        load: random.below(16),
+        store: random.between(1, 30),
+        csr_read: random.below(12),
+        csr_write: random.below(16),
+        service: random.between(1, 50),
+        blind: random.below(6),
+        boundary: random.below(6),
+        refused: random.below(6),
+    }
+}
+
+fn mixed(random: &mut Random) -> Vec<u8> {
+    let mut script = Script::new(random);
+    let weights = some_weights(random);
+    script.wander(&weights, random.between(30, 400) as usize);
+    script.audit();
+    finish(script)
+}
+
+fn long(random: &mut Random) -> Vec<u8> {
+    let mut script = Script::new(random);
+    if random.coin() {
+        script.room = random.between(1000, 3999) as usize;
+    }
+    while !script.full() {
+        let weights = some_weights(random);
+        script.refocus();
+        script.wander(&weights, random.between(100, 600) as usize);
+        script.audit();
+    }
+    finish(script)
+}
+
+/// Known kinds with no look at the state; the unused parts are 0.
+fn plain_random(random: &mut Random) -> Vec<u8> {
+    let mut script = Script::new(random);
+    for _ in 0..random.between(1, 300) {
+        let kind = random.below(10);
+        let word = random.word();
+        let address = random.below(0x10000);
+        let value = match kind {
+            SAMPLE | STORE | CSR_WRITE => word,
+            SET_MASK if random.chance(3, 4) => word & 1,
+            SET_MASK => word,
+            _ => 0,
+        };
+        let address = match kind {
+            SAMPLE if random.chance(7, 8) => address % 8,
+            LOAD | STORE if random.chance(2, 3) => 0x1000 * random.below(6) + 4 * random.below(6),
+            LOAD | STORE if random.chance(7, 8) => address & 0x7FFC,
+            CSR_READ | CSR_WRITE if random.chance(7, 8) => random.pick(&CSRS),
+            SAMPLE..=CSR_WRITE => address,
+            _ => 0,
+        };
+        script.event(kind, address, value);
+    }
+    script.audit();
+    finish(script)
+}
+
+fn offsets(random: &mut Random) -> Vec<u8> {
+    let mut script = Script::new(random);
+    if random.coin() {
+        script.set_priord(true);
+    }
+    for _ in 0..random.between(20, 200) {
+        let offset = script.boundary_offset();
+        let value = random.word();
+        match random.below(5) {
+            0 => {
+                script.store(offset, value);
+            }
+            1 | 2 => {
+                script.store(offset, value);
+                script.load(offset);
+            }
+            3 => {
+                script.load(offset);
+            }
+            _ => script.step(&EVEN),
+        }
+    }
+    script.audit();
+    finish(script)
+}
+
+fn csr_addresses(random: &mut Random) -> Vec<u8> {
+    let mut script = Script::new(random);
+    if random.coin() {
+        script.set_priord(true);
+    }
+    for _ in 0..random.between(20, 200) {
+        let address = script.boundary_csr();
+        let value = random.word();
+        match random.below(6) {
+            0 => {
+                script.csr_read(address);
+            }
+            1 | 2 => {
+                script.csr_write(address, value);
+                script.csr_read(address);
+            }
+            3 => script.serve(),
+            4 => script.provoke(),
+            _ => script.step(&EVEN),
+        }
+    }
+    script.audit();
+    finish(script)
+}
+
+/// Events to which more than one question answers no, in every state of the handlers.
+fn question_order(random: &mut Random) -> Vec<u8> {
+    let mut script = Script::new(random);
+    for _ in 0..random.between(5, 40) {
+        let value = random.word();
+        match random.below(10) {
+            0 => {
+                script.load(random.pick(&[0x8002, 0x8001, 0xFFFF, 0x9003, 0x8000]));
+            }
+            1 => {
+                script.store(
+                    random.pick(&[0x8002, 0x8001, 0xFFFF, 0x9003, 0x7FFD]),
+                    value,
+                );
+            }
+            2 => {
+                script.csr_write(random.pick(&[0xFC8, 0x1FC8, 0xBCC, 0x1BCC]), value);
+            }
+            3 => {
+                // Mask 0 and margin at most 0, or only one of them.
+                script.take();
+            }
+            4 => {
+                script.set_mask(random.pick(&[0, 1, 2, 3, u32::MAX]));
+            }
+            5 => {
+                script.open();
+                script.open();
+            }
+            6 => {
+                script.chain();
+                script.give_back();
+            }
+            7 => {
+                script.sample(random.pick(&[7, 8, 0x1007, 0x8000]), value);
+            }
+            _ => {
+                script.serve();
+                script.serve();
+            }
+        }
+    }
+    script.audit();
+    finish(script)
+}
+
+/// A strictly rising list of ranks, often all fifteen.
+fn rising_ranks(random: &mut Random) -> Vec<u8> {
+    let most = if random.coin() {
+        16
+    } else {
+        random.between(4, 16)
+    };
+    (1..=15u8).filter(|_| random.chance(most, 16)).collect()
+}
+
+/// Tries what a handler must not do, or may do without effect on nesting.
+fn disturb(script: &mut Script, random: &mut Random) {
+    match random.below(12) {
+        0 => {
+            script.open();
+        }
+        1 => {
+            script.give_back();
+        }
+        2 if script.machine.mask => {
+            script.chain();
+        }
+        3 => {
+            let rank = script.a_rank();
+            script.set_current(rank);
+        }
+        4 => {
+            script.set_mask(random.pick(&[1, 1, 2, u32::MAX]));
+        }
+        5 => {
+            let reversed = random.coin();
+            script.set_priord(reversed);
+        }
+        6 => script.set_base(),
+        7 => script.capture(),
+        8 => {
+            script.csr_read(MEICURPL);
+        }
+        9 => script.read_claim(),
+        10 => {
+            // The rank of a handler's source may change while the handler is open.
+            if let Some(top) = script.machine.handlers.last() {
+                let source = top.source as u32;
+                let rank = script.a_rank();
+                script.set_rank(source, rank);
+            }
+        }
+        _ => script.pending_words(),
+    }
+}
+
+/// Chains at the uppermost handler: served, or answered by 0 for one reason or another.
+fn chain_variants(script: &mut Script, random: &mut Random) {
+    let Some(top) = script.machine.handlers.last().cloned() else {
+        return;
+    };
+    let own = top.source as u32;
+    let other = script.a_source();
+    match random.below(8) {
+        // Its own source still wins.
+        0 => {
+            script.request(own, top.rank);
+            script.chain();
+        }
+        1 => {
+            script.quiet(own);
+            script.request(other, top.rank);
+            script.chain();
+        }
+        // Both are pending; the lower number wins.
+        2 => {
+            script.request(other, top.rank);
+            script.chain();
+        }
+        // Of the same rank, but not above the threshold.
+        3 => {
+            let before = script.machine.threshold;
+            script.request(other, top.rank);
+            let rank = (top.rank + random.below(2) as u8).min(15);
+            script.set_threshold(rank);
+            script.chain();
+            if random.chance(3, 4) {
+                script.set_threshold(top.rank - 1);
+                script.chain();
+            }
+            script.set_threshold(before);
+        }
+        // A higher winner.
+        4 => {
+            let rank = (top.rank + 1).min(15);
+            script.request(other, rank);
+            script.chain();
+            script.quiet(other);
+        }
+        // A lower winner, or none.
+        5 => {
+            script.quiet(own);
+            script.request(other, top.rank - 1);
+            script.chain();
+        }
+        6 => {
+            for source in 1..=script.count().min(20) {
+                script.quiet(source);
+            }
+            script.chain();
+        }
+        _ => {
+            script.provoke_chain();
+            script.chain();
+            script.chain();
+        }
+    }
+    if random.coin() {
+        script.read_claim();
+    }
+}
+
+fn start_nesting(script: &mut Script, random: &mut Random) {
+    if random.chance(1, 3) {
+        script.set_priord(true);
+    }
+    if random.coin() {
+        script.set_base();
+    }
+    if random.chance(1, 4) {
+        let rank = random.below(4) as u8;
+        script.set_current(rank);
+    }
+    if random.chance(1, 4) {
+        let rank = random.below(4) as u8;
+        script.set_threshold(rank);
+    }
+    script.set_mask(1);
+}
+
+/// Takes and opens handlers of rising ranks, then returns from all of them.
+fn nesting(random: &mut Random) -> Vec<u8> {
+    let mut script = Script::new(random);
+    start_nesting(&mut script, random);
+    let ranks = rising_ranks(random);
+    let disturbed = random.chance(2, 3);
+    let at_once = random.chance(1, 4);
+    let mut used = Vec::new();
+    if at_once {
+        // All ranks are set beforehand; lines are raised one after the other.
+        for &rank in &ranks {
+            let source = random.between(1, script.count());
+            script.set_rank(source, rank);
+            script.set_enable(source, true);
+            used.push(source);
+        }
+    }
+    for (place, &rank) in ranks.iter().enumerate() {
+        if at_once {
+            script.set_active(used[place], true);
+        } else {
+            let source = random.between(1, script.count());
+            if random.chance(1, 3) {
+                let (edge, active_low) = (random.coin(), random.coin());
+                script.set_gateway(source, edge, active_low);
+            }
+            script.request(source, rank);
+            used.push(source);
+        }
+        script.take();
+        if disturbed && random.coin() {
+            disturb(&mut script, random);
+        }
+        if random.chance(1, 4) {
+            chain_variants(&mut script, random);
+        }
+        script.open();
+        if disturbed && random.coin() {
+            disturb(&mut script, random);
+        }
+    }
+    let mut rounds = 0;
+    while !script.machine.handlers.is_empty() && rounds < 80 {
+        rounds += 1;
+        if disturbed && random.chance(1, 4) {
+            disturb(&mut script, random);
+        }
+        if script.machine.mask && random.chance(1, 6) {
+            script.take();
+            script.open();
+        }
+        script.set_mask(0);
+        for _ in 0..random.below(3) {
+            chain_variants(&mut script, random);
+        }
+        if random.chance(3, 4) {
+            script.give_back();
+            script.csr_read(MEICURPL);
+        }
+    }
+    script.audit();
+    finish(script)
+}
+
+/// One line stays active while its rank climbs: fifteen handlers of a single source.
+fn nesting_one_source(random: &mut Random) -> Vec<u8> {
+    let mut script = Script::new(random);
+    start_nesting(&mut script, random);
+    let source = random.between(1, script.count());
+    let other = random.between(1, script.count());
+    script.set_enable(source, true);
+    script.set_active(source, true);
+    for rank in rising_ranks(random) {
+        script.set_rank(source, rank);
+        script.take();
+        script.open();
+        // Nothing of the same rank is taken.
+        if random.chance(1, 3) {
+            script.request(other, rank);
+            script.take();
+        }
+    }
+    while !script.machine.handlers.is_empty() && !script.full() {
+        script.csr_read(MEICURPL);
+        script.set_mask(0);
+        let top = script.machine.handlers.last().map_or(0, |top| top.rank);
+        match random.below(3) {
+            0 => {
+                script.set_rank(source, top);
+                script.chain();
+            }
+            1 => {
+                script.chain();
+            }
+            _ => {}
+        }
+        script.give_back();
+        if random.chance(1, 8) {
+            script.take();
+            script.open();
+        }
+    }
+    script.audit();
+    finish(script)
+}
+
+/// Service events above all, up and down.
+fn nesting_wandering(random: &mut Random) -> Vec<u8> {
+    let mut script = Script::new(random);
+    start_nesting(&mut script, random);
+    let weights = Weights {
+        sample: 0,
+        line: 2,
+        load: 2,
+        store: 2,
+        csr_read: 4,
+        csr_write: 1,
+        service: 80,
+        blind: 3,
+        boundary: 0,
+        refused: 2,
+    };
+    script.wander(&weights, random.between(50, 500) as usize);
+    script.audit();
+    finish(script)
+}
+
+/// Several sources of one rank, served in a chain.
+fn chains(random: &mut Random) -> Vec<u8> {
+    let mut script = Script::new(random);
+    start_nesting(&mut script, random);
+    let rank = random.between(4, 15) as u8;
+    let focus = script.focus.clone();
+    for &source in &focus {
+        if random.coin() {
+            let (edge, active_low) = (random.coin(), random.chance(1, 4));
+            script.set_gateway(source, edge, active_low);
+        }
+        let off = random.chance(1, 6);
+        script.request(source, if off { rank - 1 } else { rank });
+    }
+    for _ in 0..random.between(1, 6) {
+        script.take();
+        if random.chance(3, 4) {
+            script.open();
+            script.set_mask(0);
+        }
+        for _ in 0..random.between(1, 12) {
+            let serving = script
+                .machine
+                .handlers
+                .last()
+                .map_or(0, |top| top.source as u32);
+            if serving > 0 && random.chance(3, 4) {
+                script.quiet(serving);
+            }
+            if random.chance(1, 3) {
+                chain_variants(&mut script, random);
+            }
+            script.chain();
+            if random.chance(1, 3) {
+                script.read_claim();
+            }
+        }
+        script.give_back();
+        let again = script.a_source();
+        script.request(again, rank);
+    }
+    script.audit();
+    finish(script)
+}
+
+fn priority_order(random: &mut Random) -> Vec<u8> {
+    let mut script = Script::new(random);
+    for _ in 0..random.between(10, 60) {
+        let source = script.a_source();
+        let value = random.word();
+        match random.below(10) {
+            0..=2 => {
+                let flipped = !script.machine.priord;
+                script.set_priord(flipped);
+            }
+            3 => {
+                script.store(4 * source, value);
+            }
+            4 => {
+                let csr = random.pick(&[MEIPT, MEICIDPL, MEICURPL]);
+                script.csr_write(csr, value);
+            }
+            5 => {
+                script.load(4 * source);
+                script.load(0x3000);
+                script.csr_read(MEIPT);
+                script.csr_read(MEICIDPL);
+                script.csr_read(MEICURPL);
+            }
+            6 => script.capture(),
+            7 => {
+                // Field 15 is rank 0 in reverse order, field 0 in the other.
+                script.store(4 * source, random.pick(&[0, 15]));
+                script.set_enable(source, true);
+                script.set_active(source, true);
+                script.capture();
+                script.read_claim();
+            }
+            _ => script.serve(),
+        }
+    }
+    script.audit();
+    finish(script)
+}
+
+/// A request at, above and below threshold and current.
+fn thresholds(random: &mut Random) -> Vec<u8> {
+    let mut script = Script::new(random);
+    script.set_mask(1);
+    if random.chance(1, 3) {
+        script.set_priord(true);
+    }
+    for _ in 0..random.between(3, 30) {
+        let source = script.a_source();
+        let rank = random.below(16) as u8;
+        script.request(source, rank);
+        let winner = script.machine.winner().1;
+        for _ in 0..random.between(1, 3) {
+            let bar = match random.below(5) {
+                0 => winner.saturating_sub(1),
+                1 => winner,
+                2 => (winner + 1).min(15),
+                3 => 15,
+                _ => 0,
+            };
+            if random.chance(1, 3) {
+                script.set_current(bar);
+            } else {
+                script.set_threshold(bar);
+            }
+            script.take();
+            if !script.machine.handlers.is_empty() {
+                if random.coin() {
+                    script.open();
+                }
+                if random.chance(2, 3) {
+                    script.set_mask(0);
+                    script.give_back();
+                }
+            }
+        }
+        if random.chance(1, 3) {
+            script.quiet(source);
+        }
+    }
+    if random.coin() {
+        script.audit();
+    }
+    finish(script)
+}
+
+fn gateways(random: &mut Random) -> Vec<u8> {
+    let mut script = Script::new(random);
+    for _ in 0..random.between(10, 80) {
+        let source = script.a_source();
+        match random.below(8) {
+            0 => {
+                let (edge, active_low) = (random.coin(), random.coin());
+                script.set_gateway(source, edge, active_low);
+            }
+            1 => script.set_line(source, true),
+            2 => script.set_line(source, false),
+            // Up and down leaves a latch, for a level source too.
+            3 => {
+                script.set_active(source, true);
+                script.set_active(source, false);
+                if random.coin() {
+                    script.set_gateway(source, true, random.coin());
+                }
+            }
+            4 => script.clear(source),
+            5 => {
+                script.set_active(source, true);
+                script.clear(source);
+            }
+            // The polarity makes the line active, then inactive again.
+            6 => {
+                let state = script.machine.source(source as usize).clone();
+                script.set_gateway(source, state.edge, !state.active_low);
+                if random.coin() {
+                    script.look_at(source);
+                }
+                script.set_gateway(source, random.coin(), state.active_low);
+            }
+            _ => {
+                let (low, high) = (random.coin(), random.coin());
+                script.set_gateway(source, high, low);
+                script.set_enable(source, true);
+                script.set_rank(source, random.below(16) as u8);
+                script.capture();
+                script.read_claim();
+            }
+        }
+        if random.chance(3, 4) {
+            script.look_at(source);
+        }
+    }
+    script.audit();
+    finish(script)
+}
+
+/// Writes of meicurpl with and without handlers.
+fn current(random: &mut Random) -> Vec<u8> {
+    let mut script = Script::new(random);
+    script.set_mask(1);
+    for _ in 0..random.between(5, 60) {
+        match random.below(6) {
+            0 | 1 => {
+                let rank = script.a_rank();
+                script.set_current(rank);
+                script.csr_read(MEICURPL);
+            }
+            2 => {
+                let reversed = random.coin();
+                script.set_priord(reversed);
+            }
+            3 => {
+                script.take();
+            }
+            _ => script.serve(),
+        }
+    }
+    script.unwind();
+    script.csr_read(MEICURPL);
+    script.csr_write(MEICURPL, random.word());
+    script.csr_read(MEICURPL);
+    script.audit();
+    finish(script)
+}
+
+fn mask(random: &mut Random) -> Vec<u8> {
+    let mut script = Script::new(random);
+    for _ in 0..random.between(5, 60) {
+        match random.below(6) {
+            0 => {
+                script.set_mask(0);
+            }
+            1 => {
+                script.set_mask(1);
+            }
+            2 => {
+                let values = [
+                    2,
+                    3,
+                    0x10,
+                    0x100,
+                    0x10000,
+                    0x8000_0000,
+                    u32::MAX - 1,
+                    u32::MAX,
+                ];
+                script.set_mask(random.pick(&values));
+            }
+            3 => {
+                script.take();
+                script.set_mask(random.below(3));
+            }
+            4 => {
+                let kind = random.pick(&[TAKE, OPEN, CHAIN, RETURN]);
+                script.event(kind, 0, 0);
+            }
+            _ => script.serve(),
+        }
+    }
+    script.audit();
+    finish(script)
+}
+
+/// Many pending sources of few ranks: the winner by rank, then by number.
+fn ties(random: &mut Random) -> Vec<u8> {
+    let mut script = Script::new(random);
+    let high = random.between(1, 15);
+    let low = random.between(0, high);
+    let count = script.count();
+    let step = random.between(1, 1 + count / 12);
+    let mut source = random.between(1, step);
+    while source <= count {
+        script.set_rank(source, random.pick(&[low, high]) as u8);
+        if random.chance(3, 4) {
+            script.set_enable(source, true);
+        }
+        source += step;
+    }
+    for _ in 0..random.between(5, 40) {
+        match random.below(4) {
+            0 => script.random_sample(),
+            1 => {
+                let winner = script.machine.winner().0 as u32;
+                if winner > 0 {
+                    script.quiet(winner);
+                }
+            }
+            2 => {
+                let source = random.between(1, count);
+                let reverse = script.machine.field_of(high as u8);
+                script.store(4 * source, reverse);
+                script.set_enable(source, true);
+            }
+            _ => {
+                let source = random.between(1, count);
+                script.set_line(source, random.coin());
+            }
+        }
+        script.capture();
+        script.read_claim();
+    }
+    script.set_mask(1);
+    script.take();
+    script.audit();
+    finish(script)
+}
+
+/// Claims, with the base changed before and after.
+fn claims(random: &mut Random) -> Vec<u8> {
+    let mut script = Script::new(random);
+    for _ in 0..random.between(5, 60) {
+        match random.below(7) {
+            0 => {
+                script.set_base();
+                script.csr_read(MEIHAP);
+                script.csr_read(MEIVT);
+            }
+            1 => {
+                script.capture();
+                script.read_claim();
+            }
+            2 => {
+                let value = random.word();
+                script.csr_write(MEICIDPL, value);
+                script.read_claim();
+            }
+            3 => {
+                script.csr_read(MEICPCT);
+            }
+            4 => {
+                let (source, rank) = (script.a_source(), script.a_rank());
+                script.request(source, rank);
+            }
+            5 => {
+                // What is claimed stays when the source falls silent.
+                let winner = script.machine.winner().0 as u32;
+                if winner > 0 {
+                    script.quiet(winner);
+                    script.csr_read(MEIHAP);
+                }
+            }
+            _ => script.serve(),
+        }
+    }
+    script.audit();
+    finish(script)
+}
+
+/// A capture after every change of any source.
+fn winners(random: &mut Random) -> Vec<u8> {
+    let mut script = Script::new(random);
+    let count = script.count();
+    for _ in 0..random.between(20, 150) {
+        let leader = script.machine.winner().0 as u32;
+        // Half of the changes are about the winner of the moment.
+        let source = if leader > 0 && random.coin() {
+            leader
+        } else {
+            random.between(1, count)
+        };
+        let state = script.machine.source(source as usize).clone();
+        match random.below(10) {
+            0 => script.set_rank(source, random.below(16) as u8),
+            1 => script.set_enable(source, !state.enabled),
+            2 => script.set_gateway(source, !state.edge, state.active_low),
+            3 => script.set_gateway(source, state.edge, !state.active_low),
+            4 => script.clear(source),
+            5 => script.set_line(source, !state.line),
+            6 => script.quiet(source),
+            7 => script.set_priord(random.coin()),
+            8 => script.random_sample(),
+            _ => script.request(source, random.between(1, 15) as u8),
+        }
+        script.capture();
+        script.read_claim();
+    }
+    script.audit();
+    finish(script)
+}
+
+/// Registers and lines of the sources just above N.
+fn beyond(random: &mut Random) -> Vec<u8> {
+    let mut script = Script::new(random);
+    if random.coin() {
+        script.set_priord(true);
+    }
+    let count = script.count();
+    for _ in 0..random.between(3, 30) {
+        let near = (count + random.below(4)).saturating_sub(1).max(1);
+        script.store(4 * near, random.word());
+        script.store(0x2000 + 4 * near, random.word() | 1);
+        script.store(0x4000 + 4 * near, random.word());
+        script.sample((near / 32).min(7), random.word());
+        script.look_at(near.min(255));
+        for page in [0, 0x2000, 0x4000, 0x5000] {
+            script.load(page + 4 * near);
+        }
+        if random.coin() {
+            script.store(0x5000 + 4 * near, random.word());
+            script.look_at(near.min(255));
+        }
+        script.capture();
+        script.read_claim();
+    }
+    script.audit();
+    finish(script)
+}
+
+fn samples(random: &mut Random) -> Vec<u8> {
+    let mut script = Script::new(random);
+    let count = script.count();
+    for source in 1..=count {
+        if random.coin() {
+            script.set_rank(source, random.below(16) as u8);
+            script.set_enable(source, random.chance(7, 8));
+        }
+        if random.chance(1, 4) {
+            script.set_gateway(source, random.coin(), random.coin());
+        }
+    }
+    for _ in 0..random.between(20, 300) {
+        let word = random.below(8);
+        script.sample(word, random.word() & random.word());
+        script.load(0x1000 + 4 * word);
+        if random.chance(1, 4) {
+            script.capture();
+            script.read_claim();
+        }
+    }
+    script.audit();
+    finish(script)
+}
+
+// Damaged records.
+
+fn small_record(random: &mut Random) -> Record {
+    let mut script = Script::new(random);
+    script.room = random.between(0, 12) as usize;
+    script.wander(&EVEN, 12);
+    script.record()
+}
+
+fn truncated(random: &mut Random) -> Vec<u8> {
+    let mut bytes = bytes_of(&small_record(random));
+    let cut = match random.below(4) {
+        0 => 1,
+        1 => 4,
+        2 => 8,
+        _ => random.between(1, bytes.len() as u32),
+    };
+    bytes.truncate(bytes.len() - (cut as usize).min(bytes.len()));
+    bytes
+}
+
+fn extended(random: &mut Random) -> Vec<u8> {
+    let mut bytes = bytes_of(&small_record(random));
+    let more = match random.below(4) {
+        0 => 1,
+        1 => 4,
+        2 => 8,
+        _ => random.between(1, 200),
+    };
+    let zeros = random.coin();
+    for _ in 0..more {
+        bytes.push(if zeros { 0 } else { random.word() as u8 });
+    }
+    bytes
+}
+
+fn put_word(bytes: &mut [u8], place: usize, word: u32) {
+    bytes[4 * place..4 * place + 4].copy_from_slice(&word.to_le_bytes());
+}
+
+fn wrong_count(random: &mut Random) -> Vec<u8> {
+    let record = small_record(random);
+    let count = record.events.len() as u32;
+    let mut bytes = bytes_of(&record);
+    let wrong = match random.below(6) {
+        0 => count + 1,
+        1 => count.wrapping_sub(1),
+        2 => random.pick(&[3999, 4000, 4001, 4002]),
+        3 => count.swap_bytes(),
+        4 => count | 1 << random.between(8, 31),
+        _ => random.below(8000),
+    };
+    put_word(&mut bytes, 0, wrong);
+    bytes
+}
+
+/// Counts whose length would fit if it were taken modulo a power of 2.
+fn huge_count(random: &mut Random) -> Vec<u8> {
+    let record = small_record(random);
+    let count = record.events.len() as u32;
+    let mut bytes = bytes_of(&record);
+    let wrong = match random.below(5) {
+        0 => count + 0x2000_0000,
+        1 => count + 0x2000_0000 * random.between(1, 7),
+        2 => u32::MAX - random.below(4),
+        3 => count + 0x1_0000,
+        _ => count | 0x8000_0000,
+    };
+    put_word(&mut bytes, 0, wrong);
+    bytes
+}
+
+fn bad_sources(random: &mut Random) -> u32 {
+    match random.below(6) {
+        0..=2 => random.pick(&[0, 1, 256, 257, u32::MAX]),
+        3 => random.between(2, 255) << (8 * random.between(1, 3)),
+        4 => random.between(2, 255) | 1 << random.between(8, 31),
+        _ => random.word() | 0x100,
+    }
+}
+
+fn wrong_sources(random: &mut Random) -> Vec<u8> {
+    let mut bytes = bytes_of(&small_record(random));
+    let wrong = bad_sources(random);
+    put_word(&mut bytes, 1, wrong);
+    bytes
+}
+
+fn flipped(random: &mut Random) -> Vec<u8> {
+    let mut bytes = bytes_of(&small_record(random));
+    for _ in 0..random.between(1, 3) {
+        let place = random.below(bytes.len() as u32) as usize;
+        bytes[place] ^= 1 << random.below(8);
+    }
+    bytes
+}
+
+fn tiny(random: &mut Random) -> Vec<u8> {
+    let size = random.below(10) as usize;
+    let mut bytes = lay_out(random.below(2), choose_count(random), &[0], &[0]);
+    if random.chance(1, 4) {
+        bytes = (0..size).map(|_| random.word() as u8).collect();
+    }
+    bytes.truncate(size);
+    bytes
+}
+
+/// Input of more than 32,008 bytes, the longest record.
+fn too_long(random: &mut Random) -> Vec<u8> {
+    let longest = 8 + 8 * MOST_EVENTS;
+    let mut bytes = vec![0; longest];
+    let (count, extra) = match random.below(5) {
+        0 => (4000, random.pick(&[1, 2, 4, 7, 8, 9])),
+        1 => (4001, 8),
+        2 => (4000, random.between(1, 5000)),
+        3 => (random.below(4100), random.between(1, 150_000)),
+        _ => (0, random.between(1, 40_000)),
+    };
+    put_word(&mut bytes, 0, count);
+    put_word(&mut bytes, 1, choose_count(random));
+    if random.chance(1, 8) {
+        put_word(&mut bytes, 1, bad_sources(random));
+    }
+    bytes.resize(longest + extra as usize, random.word() as u8);
+    bytes
+}
+
+fn bad_kind(random: &mut Random) -> u32 {
+    match random.below(4) {
+        0 => random.pick(&[10, 11, 12, 15, 16, 0x100, 0x8000, 0xFFFF]),
+        1 => random.below(10) | 1 << random.between(4, 15),
+        2 => random.below(10) << 8 | 0x1000,
+        _ => random.between(10, 0xFFFF),
+    }
+}
+
+/// Sets an unused part of an event, if its kind has one.
+fn use_unused(event: &mut Event, random: &mut Random) {
+    let bit = 1 << random.below(16);
+    let kind = event.kind();
+    let unused_value = matches!(kind, LOAD | CSR_READ | TAKE | OPEN | CHAIN | RETURN);
+    let unused_address = kind >= TAKE;
+    if unused_value && (!unused_address || random.coin()) {
+        event.value |= bit << (16 * random.below(2));
+    } else if unused_address {
+        event.head |= bit;
+    }
+}
+
+fn with_events(random: &mut Random) -> Record {
+    let mut script = Script::new(random);
+    script.room = random.between(1, 30) as usize;
+    script.wander(&EVEN, 30);
+    script.record()
+}
+
+fn unknown_kind(random: &mut Random) -> Vec<u8> {
+    let mut record = with_events(random);
+    for _ in 0..random.between(1, 2) {
+        let place = random.below(record.events.len() as u32) as usize;
+        let event = &mut record.events[place];
+        *event = Event {
+            head: bad_kind(random) << 16 | event.address(),
+            value: event.value,
+        };
+        // Kind before unused parts.
+        if random.coin() {
+            event.value = random.word();
+        }
+    }
+    bytes_of(&record)
+}
+
+fn unused_parts(random: &mut Random) -> Vec<u8> {
+    let mut record = with_events(random);
+    for _ in 0..random.between(1, 4) {
+        let place = random.below(record.events.len() as u32) as usize;
+        let event = &mut record.events[place];
+        if random.coin() {
+            *event = Event::new(random.below(10), 0, 0);
+        }
+        use_unused(event, random);
+    }
+    bytes_of(&record)
+}
+
+/// An unknown kind and a used unused part; the earlier event decides.
+fn kind_and_unused(random: &mut Random) -> Vec<u8> {
+    let mut record = with_events(random);
+    for _ in 0..2 {
+        let place = random.between(0, record.events.len() as u32) as usize;
+        let mut unused = Event::new(random.pick(&[1, 3, 5, 6, 7, 8, 9]), 0, 0);
+        use_unused(&mut unused, random);
+        record.events.insert(place, unused);
+        let place = random.between(0, record.events.len() as u32) as usize;
+        let unknown = Event::new(bad_kind(random), 0, random.below(2));
+        record.events.insert(place, unknown);
+    }
+    bytes_of(&record)
+}
+
+/// Some of the faults that the questions look for, all in one record.
+fn several_faults(random: &mut Random) -> Vec<u8> {
+    let mut record = with_events(random);
+    if random.coin() {
+        let place = random.below(record.events.len() as u32) as usize;
+        let kind = bad_kind(random);
+        record.events[place].head = kind << 16;
+    }
+    if random.coin() {
+        let place = random.below(record.events.len() as u32) as usize;
+        use_unused(&mut record.events[place], random);
+    }
+    let mut bytes = bytes_of(&record);
+    if random.chance(1, 3) {
+        put_word(&mut bytes, 0, random.pick(&[4001, 5000, 0x10000, u32::MAX]));
+    }
+    if random.chance(1, 3) {
+        put_word(&mut bytes, 1, bad_sources(random));
+    }
+    match random.below(6) {
+        0 => bytes.push(0),
+        1 => bytes.truncate(bytes.len() - 1),
+        2 => bytes.truncate(random.below(bytes.len() as u32) as usize),
+        _ => {}
+    }
+    bytes
+}
+
+/// A fitting head over random words, or random bytes alone.
+fn noise(random: &mut Random) -> Vec<u8> {
+    let count = random.below(20);
+    let mut bytes: Vec<u8> = (0..8 + 8 * count).map(|_| random.word() as u8).collect();
+    if random.chance(3, 4) {
+        put_word(&mut bytes, 0, count);
+        put_word(&mut bytes, 1, choose_count(random));
+    }
+    if random.coin() {
+        // Known kinds over random addresses and values.
+        for place in 0..count as usize {
+            put_word(
+                &mut bytes,
+                2 + place,
+                random.below(10) << 16 | random.below(0x10000),
+            );
+        }
+    }
+    bytes
+}
+
+// Records for measurements.
+
+/// A record of exactly `size` events, all accepted: `samples`, `mixed` or `nested`.
+pub fn bench_record(name: &str, size: usize) -> Option<Vec<u8>> {
+    let mut random = Random::new(0x0BE2_C41E);
+    let mut script = Script::with_count(&mut random, 255);
+    script.room = size;
+    match name {
+        "samples" => bench_samples(&mut script, &mut random),
+        "mixed" => bench_mixed(&mut script, &mut random),
+        "nested" => bench_nested(&mut script, &mut random),
+        _ => return None,
+    }
+    Some(finish(script))
+}
+
+/// Every source enabled and ranked, then samples; with few events, fewer sources.
+fn bench_samples(script: &mut Script, random: &mut Random) {
+    let sources = script.count().min(script.room as u32 / 4);
+    for source in 1..=sources {
+        script.store(4 * source, 1 + source * 7 % 15);
+        script.store(0x2000 + 4 * source, 1);
+    }
+    let mut word = 0;
+    while !script.full() {
+        script.sample(word, random.word());
+        word = (word + 1) % 8;
+    }
+}
+
+fn bench_mixed(script: &mut Script, random: &mut Random) {
+    script.focus = (1..=255).collect();
+    while !script.full() {
+        match random.below(8) {
+            0 => script.sample(random.below(8), random.word() & random.word()),
+            1 => script.load(0x1000 + 4 * random.below(8)),
+            2 => script.load(4 * random.between(1, 255)),
+            3 => script.csr_read(random.pick(&CSRS)),
+            4 => {
+                script.legal_store();
+                continue;
+            }
+            5 => script.csr_write(random.pick(&[MEIVT, MEICPCT, MEICIDPL]), random.word()),
+            _ => {
+                script.serve();
+                continue;
+            }
+        };
+    }
+}
+
+/// Fifteen handlers up, a chain or two at each on the way down, again and again.
+fn bench_nested(script: &mut Script, random: &mut Random) {
+    let sources: Vec<u32> = (0..30)
+        .map(|place| 1 + place * 8 + random.below(8))
+        .collect();
+    for (place, &source) in sources.iter().enumerate() {
+        script.store(4 * source, 1 + place as u32 / 2);
+        script.store(0x2000 + 4 * source, 1);
+    }
+    script.set_mask(1);
+    while !script.full() {
+        // The first source of each pair starts a handler, the second is chained to it.
+        for pair in sources.chunks(2) {
+            script.set_active(pair[0], true);
+            script.take();
+            script.open();
+        }
+        for pair in sources.chunks(2).rev() {
+            script.set_mask(0);
+            script.set_active(pair[0], false);
+            script.set_active(pair[1], true);
+            script.chain();
+            script.set_active(pair[1], false);
+            script.chain();
+            script.give_back();
+        }
+    }
+}

@@ -1,0 +1,10 @@
+//! A reference player for records of the VeeR EH1 interrupt controller.
+
+pub mod compare;
+pub mod event;
+pub mod generate;
+pub mod machine;
+pub mod player;
+pub mod random;
+pub mod record;
+pub mod script;

@@ -1,0 +1,431 @@
+//! The interrupt controller, its handlers, and the ten events.
+
+use crate::event::{Action, Event};
+
+pub const MEIVT: u32 = 0xBC8;
+pub const MEIPT: u32 = 0xBC9;
+pub const MEICPCT: u32 = 0xBCA;
+pub const MEICIDPL: u32 = 0xBCB;
+pub const MEICURPL: u32 = 0xBCC;
+pub const MEIHAP: u32 = 0xFC8;
+pub const CSRS: [u32; 6] = [MEIVT, MEIPT, MEICPCT, MEICIDPL, MEICURPL, MEIHAP];
+
+/// One external source with its gateway.
+#[derive(Clone, Debug, Default, PartialEq, Eq)]
+pub struct Source {
+    pub rank: u8,
+    pub enabled: bool,
+    /// Type 1: pending by the latch, not by the line.
+    pub edge: bool,
+    /// Polarity 1.
+    pub active_low: bool,
+    pub line: bool,
+    pub latch: bool,
+}
+
+impl Source {
+    pub fn active(&self) -> bool {
+        self.line != self.active_low
+    }
+
+    pub fn pending(&self) -> bool {
+        if self.edge {
+            self.latch
+        } else {
+            self.active()
+        }
+    }
+
+    pub fn eligible(&self) -> bool {
+        self.enabled && self.pending() && self.rank >= 1
+    }
+}
+
+#[derive(Clone, Debug, PartialEq, Eq)]
+pub struct Handler {
+    pub source: usize,
+    pub rank: u8,
+    /// Current rank at the time of the take.
+    pub saved: u8,
+    pub opened: bool,
+}
+
+#[derive(Clone, Debug, PartialEq, Eq)]
+pub struct Machine {
+    /// Source S stands at place S - 1.
+    pub sources: Vec<Source>,
+    pub priord: bool,
+    pub base: u32,
+    pub claim: usize,
+    pub threshold: u8,
+    pub claimed: u8,
+    pub current: u8,
+    pub mask: bool,
+    /// The uppermost handler is the last.
+    pub handlers: Vec<Handler>,
+}
+
+/// The answer of an event and its refusal number, 0 when accepted.
+#[derive(Clone, Copy, Debug, PartialEq, Eq)]
+pub struct Outcome {
+    pub answer: u32,
+    pub refusal: u32,
+}
+
+/// What a memory-mapped offset names.
+enum Register {
+    Priority(usize),
+    Pending(usize),
+    Enable(usize),
+    Configuration,
+    GatewayControl(usize),
+    GatewayClear(usize),
+    Unmapped,
+}
+
+fn require(yes: bool, refusal: u32) -> Result<(), u32> {
+    if yes {
+        Ok(())
+    } else {
+        Err(refusal)
+    }
+}
+
+impl Machine {
+    /// The machine at power-on; for a bad N the machine of two sources and refusal 2.
+    pub fn power_on(count: u32) -> (Machine, u32) {
+        let (count, refusal) = if (2..=255).contains(&count) {
+            (count, 0)
+        } else {
+            (2, 2)
+        };
+        let machine = Machine {
+            sources: vec![Source::default(); count as usize],
+            priord: false,
+            base: 0,
+            claim: 0,
+            threshold: 0,
+            claimed: 0,
+            current: 0,
+            mask: false,
+            handlers: Vec::new(),
+        };
+        (machine, refusal)
+    }
+
+    pub fn count(&self) -> usize {
+        self.sources.len()
+    }
+
+    pub fn source(&self, number: usize) -> &Source {
+        &self.sources[number - 1]
+    }
+
+    fn source_mut(&mut self, number: usize) -> &mut Source {
+        &mut self.sources[number - 1]
+    }
+
+    pub fn sound(&self) -> bool {
+        self.values_in_range() && self.latches_sound() && self.handlers_sound()
+    }
+
+    fn values_in_range(&self) -> bool {
+        (2..=255).contains(&self.count())
+            && self.sources.iter().all(|source| source.rank <= 15)
+            && self.base.is_multiple_of(1024)
+            && self.claim <= self.count()
+            && self.threshold <= 15
+            && self.claimed <= 15
+            && self.current <= 15
+            && self.handlers.len() <= 15
+    }
+
+    fn latches_sound(&self) -> bool {
+        self.sources
+            .iter()
+            .all(|source| source.latch || !source.active())
+    }
+
+    fn handlers_sound(&self) -> bool {
+        let Some(top) = self.handlers.last() else {
+            return true;
+        };
+        let each = self.handlers.iter().all(|handler| {
+            (1..=self.count()).contains(&handler.source) && (1..=15).contains(&handler.rank)
+        });
+        let lowest = &self.handlers[0];
+        let pairs = self.handlers.windows(2).all(|pair| {
+            pair[0].rank < pair[1].rank && pair[0].opened && pair[1].saved == pair[0].rank
+        });
+        let level = if top.opened { top.rank } else { top.saved };
+        each && lowest.saved < lowest.rank
+            && pairs
+            && self.current == level
+            && (!self.mask || top.opened)
+    }
+
+    /// The eligible source of highest rank, of equals the lowest number, and its rank; else 0, 0.
+    pub fn winner(&self) -> (usize, u8) {
+        let mut best = (0, 0);
+        for (place, source) in self.sources.iter().enumerate() {
+            if source.eligible() && source.rank > best.1 {
+                best = (place + 1, source.rank);
+            }
+        }
+        best
+    }
+
+    /// The margin query: refused with 8 for a machine that isn't sound.
+    pub fn query_margin(&self) -> Result<i32, u32> {
+        require(self.sound(), 8)?;
+        Ok(self.margin())
+    }
+
+    pub fn margin(&self) -> i32 {
+        i32::from(self.winner().1) - i32::from(self.threshold.max(self.current))
+    }
+
+    /// The register field that shows a rank.
+    pub fn field_of(&self, rank: u8) -> u32 {
+        u32::from(if self.priord { 15 - rank } else { rank })
+    }
+
+    /// The rank that a written value gives; bits above the field are dropped.
+    pub fn rank_of(&self, value: u32) -> u8 {
+        let field = (value & 15) as u8;
+        if self.priord {
+            15 - field
+        } else {
+            field
+        }
+    }
+
+    pub fn meihap(&self) -> u32 {
+        self.base + 4 * self.claim as u32
+    }
+
+    /// Plays one event. A refused event leaves the machine as it was and answers 0.
+    pub fn play(&mut self, event: Event) -> Outcome {
+        match self.attempt(event) {
+            Ok(answer) => Outcome { answer, refusal: 0 },
+            Err(refusal) => Outcome { answer: 0, refusal },
+        }
+    }
+
+    fn attempt(&mut self, event: Event) -> Result<u32, u32> {
+        require(self.sound(), 8)?;
+        let action = event.action()?;
+        self.admit(action)?;
+        let answer = self.perform(action);
+        self.settle_latches();
+        debug_assert!(self.sound(), "unsound after {event:?}: {self:?}");
+        Ok(answer)
+    }
+
+    /// Questions 9 to 21.
+    fn admit(&self, action: Action) -> Result<(), u32> {
+        match action {
+            Action::Sample { word, .. } => require(word <= 7, 9),
+            Action::Load { offset } | Action::Store { offset, .. } => {
+                require(offset < 0x8000, 10)?;
+                require(offset.is_multiple_of(4), 11)
+            }
+            Action::CsrRead { address } => require(CSRS.contains(&address), 12),
+            Action::CsrWrite { address, .. } => {
+                require(CSRS.contains(&address), 12)?;
+                require(address != MEIHAP, 13)?;
+                require(address != MEICURPL || self.handlers.is_empty(), 14)
+            }
+            Action::Take => {
+                require(self.mask, 15)?;
+                require(self.margin() > 0, 16)
+            }
+            Action::Open => {
+                let top = self.handlers.last().ok_or(17u32)?;
+                require(!top.opened, 18)
+            }
+            Action::Chain | Action::Return => {
+                require(!self.handlers.is_empty(), 17)?;
+                require(!self.mask, 19)
+            }
+            Action::SetMask { value } => {
+                require(value <= 1, 20)?;
+                let may_unmask = self.handlers.last().is_none_or(|top| top.opened);
+                require(value == 0 || may_unmask, 21)
+            }
+        }
+    }
+
+    /// Does an admitted action and gives its answer.
+    fn perform(&mut self, action: Action) -> u32 {
+        match action {
+            Action::Sample { word, lines } => {
+                self.sample(word, lines);
+                0
+            }
+            Action::Load { offset } => self.load(offset),
+            Action::Store { offset, value } => {
+                self.store(offset, value);
+                0
+            }
+            Action::CsrRead { address } => self.read_csr(address),
+            Action::CsrWrite { address, value } => {
+                self.write_csr(address, value);
+                0
+            }
+            Action::Take => self.take(),
+            Action::Open => self.open(),
+            Action::Chain => self.chain(),
+            Action::Return => self.give_back(),
+            Action::SetMask { value } => {
+                self.mask = value == 1;
+                0
+            }
+        }
+    }
+
+    /// An active line sets its latch; other latches stay.
+    fn settle_latches(&mut self) {
+        for source in &mut self.sources {
+            if source.active() {
+                source.latch = true;
+            }
+        }
+    }
+
+    fn sample(&mut self, word: u32, lines: u32) {
+        for bit in 0..32 {
+            let number = (32 * word + bit) as usize;
+            if number >= 1 && number <= self.count() {
+                self.source_mut(number).line = lines & (1 << bit) != 0;
+            }
+        }
+    }
+
+    fn register(&self, offset: u32) -> Register {
+        let page = offset / 0x1000;
+        let place = (offset % 0x1000 / 4) as usize;
+        let is_source = place >= 1 && place <= self.count();
+        match page {
+            0 if is_source => Register::Priority(place),
+            1 if place < 8 => Register::Pending(place),
+            2 if is_source => Register::Enable(place),
+            3 if place == 0 => Register::Configuration,
+            4 if is_source => Register::GatewayControl(place),
+            5 if is_source => Register::GatewayClear(place),
+            _ => Register::Unmapped,
+        }
+    }
+
+    fn load(&self, offset: u32) -> u32 {
+        match self.register(offset) {
+            Register::Priority(number) => self.field_of(self.source(number).rank),
+            Register::Pending(word) => self.pending_word(word),
+            Register::Enable(number) => u32::from(self.source(number).enabled),
+            Register::Configuration => u32::from(self.priord),
+            Register::GatewayControl(number) => {
+                let source = self.source(number);
+                2 * u32::from(source.edge) + u32::from(source.active_low)
+            }
+            Register::GatewayClear(_) | Register::Unmapped => 0,
+        }
+    }
+
+    fn store(&mut self, offset: u32, value: u32) {
+        match self.register(offset) {
+            Register::Priority(number) => {
+                let rank = self.rank_of(value);
+                self.source_mut(number).rank = rank;
+            }
+            Register::Enable(number) => self.source_mut(number).enabled = value & 1 != 0,
+            Register::Configuration => self.priord = value & 1 != 0,
+            Register::GatewayControl(number) => {
+                let source = self.source_mut(number);
+                source.edge = value & 2 != 0;
+                source.active_low = value & 1 != 0;
+            }
+            Register::GatewayClear(number) => self.source_mut(number).latch = false,
+            Register::Pending(_) | Register::Unmapped => {}
+        }
+    }
+
+    pub fn pending_word(&self, word: usize) -> u32 {
+        let mut bits = 0;
+        for (place, source) in self.sources.iter().enumerate() {
+            let number = place + 1;
+            if number / 32 == word && source.pending() {
+                bits += 1 << (number % 32);
+            }
+        }
+        bits
+    }
+
+    fn read_csr(&self, address: u32) -> u32 {
+        match address {
+            MEIVT => self.base,
+            MEIPT => self.field_of(self.threshold),
+            MEICIDPL => self.field_of(self.claimed),
+            MEICURPL => self.field_of(self.current),
+            MEIHAP => self.meihap(),
+            _ => 0,
+        }
+    }
+
+    fn write_csr(&mut self, address: u32, value: u32) {
+        match address {
+            MEIVT => self.base = value - value % 1024,
+            MEIPT => self.threshold = self.rank_of(value),
+            MEICPCT => self.capture(),
+            MEICIDPL => self.claimed = self.rank_of(value),
+            MEICURPL => self.current = self.rank_of(value),
+            _ => {}
+        }
+    }
+
+    fn capture(&mut self) {
+        (self.claim, self.claimed) = self.winner();
+    }
+
+    fn take(&mut self) -> u32 {
+        self.capture();
+        self.handlers.push(Handler {
+            source: self.claim,
+            rank: self.claimed,
+            saved: self.current,
+            opened: false,
+        });
+        self.mask = false;
+        self.meihap()
+    }
+
+    fn open(&mut self) -> u32 {
+        let Some(top) = self.handlers.last_mut() else {
+            return 0;
+        };
+        top.opened = true;
+        self.current = top.rank;
+        self.mask = true;
+        u32::from(self.current)
+    }
+
+    fn chain(&mut self) -> u32 {
+        self.capture();
+        let (source, rank) = (self.claim, self.claimed);
+        let above = rank > self.threshold;
+        match self.handlers.last_mut() {
+            Some(top) if top.rank == rank && above => {
+                top.source = source;
+                self.meihap()
+            }
+            _ => 0,
+        }
+    }
+
+    fn give_back(&mut self) -> u32 {
+        if let Some(top) = self.handlers.pop() {
+            self.current = top.saved;
+        }
+        self.mask = true;
+        self.handlers.len() as u32
+    }
+}

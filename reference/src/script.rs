@@ -1,0 +1,731 @@
+//! A record in the making: every event is played at once, so that the next can be chosen by the
+//! state that it leads to.
+
+use crate::event::*;
+use crate::machine::*;
+use crate::random::Random;
+use crate::record::{Record, MOST_EVENTS};
+
+/// How often each sort of step is chosen while wandering.
+#[derive(Clone, Copy)]
+pub struct Weights {
+    /// A whole word of lines.
+    pub sample: u32,
+    /// One line of one source.
+    pub line: u32,
+    pub load: u32,
+    pub store: u32,
+    pub csr_read: u32,
+    pub csr_write: u32,
+    /// The next service event that the state suggests.
+    pub service: u32,
+    /// A service event without a look at the state.
+    pub blind: u32,
+    /// Offsets and CSR addresses at the edges.
+    pub boundary: u32,
+    /// Events of which most are refused.
+    pub refused: u32,
+}
+
+pub const EVEN: Weights = Weights {
+    sample: 6,
+    line: 12,
+    load: 10,
+    store: 20,
+    csr_read: 8,
+    csr_write: 10,
+    service: 30,
+    blind: 4,
+    boundary: 4,
+    refused: 2,
+};
+
+pub struct Script {
+    pub random: Random,
+    pub machine: Machine,
+    pub events: Vec<Event>,
+    pub room: usize,
+    /// Sources that most steps are about.
+    pub focus: Vec<u32>,
+}
+
+/// N at the edges of the range and of the words, or any.
+pub fn choose_count(random: &mut Random) -> u32 {
+    if random.chance(2, 3) {
+        random.pick(&[2, 3, 4, 31, 32, 33, 63, 64, 65, 255])
+    } else {
+        random.between(2, 255)
+    }
+}
+
+impl Script {
+    pub fn new(random: &mut Random) -> Script {
+        let count = choose_count(random);
+        Script::with_count(random, count)
+    }
+
+    pub fn with_count(random: &mut Random, count: u32) -> Script {
+        let mut script = Script {
+            random: Random::new(random.draw()),
+            machine: Machine::power_on(count).0,
+            events: Vec::new(),
+            room: MOST_EVENTS,
+            focus: Vec::new(),
+        };
+        script.refocus();
+        script
+    }
+
+    pub fn record(self) -> Record {
+        Record {
+            sources: self.machine.count() as u32,
+            events: self.events,
+        }
+    }
+
+    pub fn count(&self) -> u32 {
+        self.machine.count() as u32
+    }
+
+    pub fn left(&self) -> usize {
+        self.room - self.events.len()
+    }
+
+    pub fn full(&self) -> bool {
+        self.left() == 0
+    }
+
+    /// Chooses the sources in focus anew, often those at the edges of words.
+    pub fn refocus(&mut self) {
+        let edges = [
+            1, 2, 3, 30, 31, 32, 33, 63, 64, 65, 127, 128, 191, 192, 223, 224, 254, 255,
+        ];
+        let count = self.count();
+        let size = self.random.between(2, 8);
+        self.focus.clear();
+        while self.focus.len() < size as usize {
+            let source = match self.random.below(4) {
+                0 => count - self.random.below(count.min(3)),
+                1 => self.random.pick(&edges),
+                _ => self.random.between(1, count),
+            };
+            if source <= count {
+                self.focus.push(source);
+            }
+        }
+    }
+
+    /// Plays an event and appends it; without room left nothing happens.
+    pub fn event(&mut self, kind: u32, address: u32, value: u32) -> Outcome {
+        if self.full() {
+            return Outcome {
+                answer: 0,
+                refusal: 0,
+            };
+        }
+        let event = Event::new(kind, address, value);
+        let outcome = self.machine.play(event);
+        assert!(self.machine.sound(), "unsound after {event:?}");
+        self.events.push(event);
+        outcome
+    }
+
+    pub fn sample(&mut self, word: u32, lines: u32) -> Outcome {
+        self.event(SAMPLE, word, lines)
+    }
+
+    pub fn load(&mut self, offset: u32) -> Outcome {
+        self.event(LOAD, offset, 0)
+    }
+
+    pub fn store(&mut self, offset: u32, value: u32) -> Outcome {
+        self.event(STORE, offset, value)
+    }
+
+    pub fn csr_read(&mut self, address: u32) -> Outcome {
+        self.event(CSR_READ, address, 0)
+    }
+
+    pub fn csr_write(&mut self, address: u32, value: u32) -> Outcome {
+        self.event(CSR_WRITE, address, value)
+    }
+
+    pub fn take(&mut self) -> Outcome {
+        self.event(TAKE, 0, 0)
+    }
+
+    pub fn open(&mut self) -> Outcome {
+        self.event(OPEN, 0, 0)
+    }
+
+    pub fn chain(&mut self) -> Outcome {
+        self.event(CHAIN, 0, 0)
+    }
+
+    pub fn give_back(&mut self) -> Outcome {
+        self.event(RETURN, 0, 0)
+    }
+
+    pub fn set_mask(&mut self, value: u32) -> Outcome {
+        self.event(SET_MASK, 0, value)
+    }
+
+    /// Sometimes sets bits above the kept ones, which the machine must drop.
+    fn litter(&mut self, value: u32, kept: u32) -> u32 {
+        if self.random.chance(1, 4) {
+            value | self.random.word() << kept
+        } else {
+            value
+        }
+    }
+
+    pub fn set_line(&mut self, source: u32, level: bool) {
+        let word = source / 32;
+        let mut lines = 0;
+        for bit in 0..32 {
+            let number = 32 * word + bit;
+            if number == source {
+                lines |= u32::from(level) << bit;
+            } else if number >= 1 && number <= self.count() {
+                lines |= u32::from(self.machine.source(number as usize).line) << bit;
+            } else {
+                // A bit of no source, dropped.
+                lines |= u32::from(self.random.chance(1, 8)) << bit;
+            }
+        }
+        self.sample(word, lines);
+    }
+
+    pub fn set_active(&mut self, source: u32, active: bool) {
+        let level = active != self.machine.source(source as usize).active_low;
+        self.set_line(source, level);
+    }
+
+    /// Ends the request of a source: its line goes inactive, and an edge latch is cleared.
+    pub fn quiet(&mut self, source: u32) {
+        let state = self.machine.source(source as usize).clone();
+        if state.active() {
+            self.set_active(source, false);
+        }
+        if state.edge {
+            self.clear(source);
+        }
+    }
+
+    pub fn set_rank(&mut self, source: u32, rank: u8) {
+        let value = self.litter(self.machine.field_of(rank), 4);
+        self.store(4 * source, value);
+    }
+
+    pub fn set_enable(&mut self, source: u32, enabled: bool) {
+        let value = self.litter(u32::from(enabled), 1);
+        self.store(0x2000 + 4 * source, value);
+    }
+
+    pub fn set_gateway(&mut self, source: u32, edge: bool, active_low: bool) {
+        let value = self.litter(2 * u32::from(edge) + u32::from(active_low), 2);
+        self.store(0x4000 + 4 * source, value);
+    }
+
+    pub fn clear(&mut self, source: u32) {
+        let value = if self.random.coin() {
+            0
+        } else {
+            self.random.word()
+        };
+        self.store(0x5000 + 4 * source, value);
+    }
+
+    pub fn set_priord(&mut self, reversed: bool) {
+        let value = self.litter(u32::from(reversed), 1);
+        self.store(0x3000, value);
+    }
+
+    pub fn set_threshold(&mut self, rank: u8) {
+        let value = self.litter(self.machine.field_of(rank), 4);
+        self.csr_write(MEIPT, value);
+    }
+
+    pub fn set_current(&mut self, rank: u8) -> Outcome {
+        let value = self.litter(self.machine.field_of(rank), 4);
+        self.csr_write(MEICURPL, value)
+    }
+
+    pub fn set_base(&mut self) {
+        let value = match self.random.below(4) {
+            0 => 0,
+            1 => u32::MAX,
+            2 => self.random.word() & !1023,
+            _ => self.random.word(),
+        };
+        self.csr_write(MEIVT, value);
+    }
+
+    pub fn capture(&mut self) {
+        let value = if self.random.coin() {
+            0
+        } else {
+            self.random.word()
+        };
+        self.csr_write(MEICPCT, value);
+    }
+
+    /// Reads what a capture sets.
+    pub fn read_claim(&mut self) {
+        self.csr_read(MEIHAP);
+        self.csr_read(MEICIDPL);
+    }
+
+    pub fn pending_words(&mut self) {
+        for word in 0..8 {
+            self.load(0x1000 + 4 * word);
+        }
+    }
+
+    /// Reads the pending word that shows a source.
+    pub fn look_at(&mut self, source: u32) {
+        self.load(0x1000 + 4 * (source / 32));
+    }
+
+    pub fn a_source(&mut self) -> u32 {
+        if self.random.chance(4, 5) {
+            let place = self.random.below(self.focus.len() as u32);
+            self.focus[place as usize]
+        } else {
+            let count = self.count();
+            self.random.between(1, count)
+        }
+    }
+
+    /// A rank, often one beside those that the machine compares with.
+    pub fn a_rank(&mut self) -> u8 {
+        let near = match self.random.below(6) {
+            0 => self.machine.threshold,
+            1 => self.machine.current,
+            2 => self.machine.handlers.last().map_or(1, |top| top.rank),
+            3 => self.machine.winner().1,
+            _ => return self.random.below(16) as u8,
+        };
+        match self.random.below(3) {
+            0 => near.saturating_sub(1),
+            1 => near,
+            _ => (near + 1).min(15),
+        }
+    }
+
+    /// Enables a source, ranks it and makes it pending.
+    pub fn request(&mut self, source: u32, rank: u8) {
+        self.set_rank(source, rank);
+        self.set_enable(source, true);
+        self.set_active(source, true);
+    }
+
+    /// Makes a source win above threshold and current, if a rank is left for it.
+    pub fn provoke(&mut self) {
+        let bar = self.machine.threshold.max(self.machine.current);
+        if bar == 15 {
+            if self.machine.current < 15 {
+                let rank = self.random.below(15) as u8;
+                self.set_threshold(rank);
+            } else if self.machine.handlers.is_empty() {
+                let rank = self.random.below(8) as u8;
+                self.set_current(rank);
+            } else {
+                let source = self.machine.winner().0 as u32;
+                if source > 0 {
+                    self.quiet(source);
+                }
+            }
+            return;
+        }
+        let source = self.a_source();
+        let rank = if self.random.chance(2, 3) {
+            bar + 1
+        } else {
+            self.random.between(u32::from(bar) + 1, 15) as u8
+        };
+        self.request(source, rank);
+    }
+
+    /// Makes a source of the uppermost handler's rank pending, and often the winner.
+    pub fn provoke_chain(&mut self) {
+        let Some(top) = self.machine.handlers.last().cloned() else {
+            return;
+        };
+        if self.random.coin() {
+            self.quiet(top.source as u32);
+        }
+        let source = self.a_source();
+        self.request(source, top.rank);
+        for _ in 0..4 {
+            let (winner, rank) = self.machine.winner();
+            if rank <= top.rank || self.random.chance(1, 4) {
+                break;
+            }
+            self.quiet(winner as u32);
+            if self.machine.winner().0 == winner {
+                self.set_enable(winner as u32, false);
+            }
+        }
+    }
+
+    /// The service event that the state suggests, with what leads to it.
+    pub fn serve(&mut self) {
+        let margin = self.machine.margin();
+        let dice = self.random.below(10);
+        let top = self.machine.handlers.last().cloned();
+        match top {
+            None if !self.machine.mask => {
+                self.set_mask(1);
+            }
+            None if margin > 0 => {
+                self.take();
+            }
+            None => self.provoke(),
+            Some(handler) if !handler.opened => match dice {
+                0 => {
+                    self.provoke_chain();
+                    self.chain();
+                }
+                1 => {
+                    self.chain();
+                }
+                2 => {
+                    self.give_back();
+                }
+                _ => {
+                    self.open();
+                }
+            },
+            Some(_) if self.machine.mask => match dice {
+                0 | 1 => {
+                    self.set_mask(0);
+                }
+                _ if margin > 0 => {
+                    self.take();
+                }
+                2 | 3 => {
+                    self.set_mask(0);
+                }
+                _ => self.provoke(),
+            },
+            Some(_) => match dice {
+                0..=2 => {
+                    self.provoke_chain();
+                    self.chain();
+                }
+                3 | 4 => {
+                    self.chain();
+                }
+                5 => {
+                    self.set_mask(1);
+                }
+                _ => {
+                    self.give_back();
+                }
+            },
+        }
+    }
+
+    pub fn legal_load(&mut self) {
+        let source = self.a_source();
+        let offset = match self.random.below(12) {
+            0..=2 => 4 * source,
+            3..=6 => 0x1000 + 4 * (source / 32),
+            7 => 0x1000 + 4 * self.random.below(8),
+            8 => 0x2000 + 4 * source,
+            9 => 0x3000,
+            10 => 0x4000 + 4 * source,
+            _ => 0x5000 + 4 * source,
+        };
+        self.load(offset);
+    }
+
+    pub fn legal_store(&mut self) {
+        let source = self.a_source();
+        match self.random.below(16) {
+            0..=4 => {
+                let rank = self.a_rank();
+                self.set_rank(source, rank);
+            }
+            5..=8 => {
+                let enabled = self.random.chance(3, 4);
+                self.set_enable(source, enabled);
+            }
+            9..=11 => {
+                let (edge, active_low) = (self.random.coin(), self.random.chance(1, 3));
+                self.set_gateway(source, edge, active_low);
+            }
+            12 | 13 => self.clear(source),
+            14 => {
+                let reversed = self.random.coin();
+                self.set_priord(reversed);
+            }
+            _ => {
+                let (word, value) = (self.random.below(8), self.random.word());
+                self.store(0x1000 + 4 * word, value);
+            }
+        }
+    }
+
+    pub fn legal_csr_read(&mut self) {
+        let address = self.random.pick(&CSRS);
+        self.csr_read(address);
+    }
+
+    pub fn legal_csr_write(&mut self) {
+        let rank = self.a_rank();
+        match self.random.below(10) {
+            0 | 1 => self.set_base(),
+            2..=4 => self.set_threshold(rank),
+            5 | 6 => self.capture(),
+            7 => {
+                let value = self.litter(self.machine.field_of(rank), 4);
+                self.csr_write(MEICIDPL, value);
+            }
+            8 => {
+                self.set_current(rank.min(8));
+            }
+            // Keeps the bar low, so that takes stay frequent.
+            _ => self.set_threshold(0),
+        }
+    }
+
+    pub fn boundary_offset(&mut self) -> u32 {
+        let count = self.count();
+        let page = 0x1000 * self.random.below(8);
+        let plain = match self.random.below(8) {
+            0 => page,
+            1 => page + 4,
+            2 => page + 4 * count,
+            3 => page + 4 * (count + 1),
+            4 => page + 0xFFC,
+            5 => self
+                .random
+                .pick(&[0x1014, 0x101C, 0x1020, 0x1024, 0x3004, 0x3008]),
+            6 => page + self.random.pick(&[0x3FC, 0x400, 0x404]),
+            _ => self.random.pick(&[
+                0x7FFC, 0x7FFF, 0x8000, 0x8002, 0x8004, 0x9000, 0xB000, 0xFFFF,
+            ]),
+        };
+        match self.random.below(8) {
+            0 => plain ^ self.random.between(1, 3),
+            1 => plain ^ 0x8000,
+            _ => plain,
+        }
+    }
+
+    pub fn boundary_csr(&mut self) -> u32 {
+        let real = self.random.pick(&CSRS);
+        match self.random.below(10) {
+            0..=3 => real,
+            4 => self.random.pick(&[0xBC7, 0xBCD, 0xFC7, 0xFC9]),
+            5 => real | 0x1000 << self.random.below(4),
+            6 => self
+                .random
+                .pick(&[0x1BC8, 0x1FC8, 0xFBC8, 0, 0xFFFF, 0xBC0, 0xFCC]),
+            7 => real ^ 1 << self.random.below(16),
+            8 => 0xB00 + self.random.below(0x100),
+            _ => self.random.below(0x10000),
+        }
+    }
+
+    pub fn boundary(&mut self) {
+        let value = self.random.word();
+        match self.random.below(4) {
+            0 => {
+                let offset = self.boundary_offset();
+                self.load(offset);
+            }
+            1 => {
+                let offset = self.boundary_offset();
+                self.store(offset, value);
+            }
+            2 => {
+                let address = self.boundary_csr();
+                self.csr_read(address);
+            }
+            _ => {
+                let address = self.boundary_csr();
+                self.csr_write(address, value);
+            }
+        }
+    }
+
+    /// An event that is refused, in most states.
+    pub fn refused_step(&mut self) {
+        let value = self.random.word();
+        match self.random.below(13) {
+            0 => {
+                let word = self.random.pick(&[8, 9, 16, 0x100, 0x8000, 0xFFFF]);
+                self.sample(word, value);
+            }
+            1 => {
+                let offset = 0x8000 + self.random.below(0x8000);
+                self.load(offset);
+            }
+            2 => {
+                let offset = 4 * self.random.below(0x2000) + self.random.between(1, 3);
+                self.store(offset, value);
+            }
+            3 => {
+                let address = self.random.pick(&[0xBC7, 0xBCD, 0x1BCC, 0xFC9]);
+                self.csr_read(address);
+            }
+            4 => {
+                let address = self.random.pick(&[0xBC7, 0xBCD, 0x1BCC, 0xFC9]);
+                self.csr_write(address, value);
+            }
+            5 => {
+                self.csr_write(MEIHAP, value);
+            }
+            6 => {
+                self.csr_write(MEICURPL, value);
+            }
+            7 => {
+                self.take();
+            }
+            8 => {
+                self.open();
+            }
+            9 => {
+                self.chain();
+            }
+            10 => {
+                self.give_back();
+            }
+            11 => {
+                let value = self
+                    .random
+                    .pick(&[2, 3, 0x100, 0x10000, 0x8000_0001, u32::MAX, value]);
+                self.set_mask(value);
+            }
+            _ => {
+                self.set_mask(1);
+            }
+        }
+    }
+
+    pub fn random_sample(&mut self) {
+        let word = if self.random.chance(3, 4) {
+            self.a_source() / 32
+        } else {
+            self.random.below(8)
+        };
+        let lines = match self.random.below(5) {
+            0 => 0,
+            1 => u32::MAX,
+            2 => self.random.word() & self.random.word() & self.random.word(),
+            3 => 1 << self.random.below(32),
+            _ => self.random.word(),
+        };
+        self.sample(word, lines);
+    }
+
+    pub fn step(&mut self, weights: &Weights) {
+        let sorts = [
+            weights.sample,
+            weights.line,
+            weights.load,
+            weights.store,
+            weights.csr_read,
+            weights.csr_write,
+            weights.service,
+            weights.blind,
+            weights.boundary,
+            weights.refused,
+        ];
+        let mut dice = self.random.below(sorts.iter().sum());
+        let mut sort = 0;
+        while dice >= sorts[sort] {
+            dice -= sorts[sort];
+            sort += 1;
+        }
+        match sort {
+            0 => self.random_sample(),
+            1 => {
+                let (source, level) = (self.a_source(), self.random.coin());
+                self.set_line(source, level);
+            }
+            2 => self.legal_load(),
+            3 => self.legal_store(),
+            4 => self.legal_csr_read(),
+            5 => self.legal_csr_write(),
+            6 => self.serve(),
+            7 => {
+                let kind = self.random.between(TAKE, SET_MASK);
+                let value = if kind == SET_MASK {
+                    self.random.below(2)
+                } else {
+                    0
+                };
+                self.event(kind, 0, value);
+            }
+            8 => self.boundary(),
+            _ => self.refused_step(),
+        }
+    }
+
+    /// At least `count` more events, as far as there is room.
+    pub fn wander(&mut self, weights: &Weights, count: usize) {
+        let goal = (self.events.len() + count).min(self.room);
+        while self.events.len() < goal {
+            self.step(weights);
+        }
+    }
+
+    /// Shows as much of the state as answers can: registers, then latches, then handlers.
+    pub fn audit(&mut self) {
+        let whole = self.count() <= 40 || self.random.chance(1, 8);
+        let mut shown: Vec<u32> = if whole {
+            (1..=self.count()).collect()
+        } else {
+            self.focus.clone()
+        };
+        shown.sort_unstable();
+        shown.dedup();
+        for address in CSRS {
+            self.csr_read(address);
+        }
+        self.load(0x3000);
+        self.pending_words();
+        for &source in &shown {
+            for page in [0, 0x2000, 0x4000] {
+                self.load(page + 4 * source);
+            }
+        }
+        let after = 4 * (self.count() + 1);
+        for page in [0, 0x2000, 0x4000, 0x5000] {
+            self.load(page);
+            self.load(page + after);
+        }
+        self.capture();
+        self.read_claim();
+        if self.random.chance(3, 4) {
+            self.unwind();
+        }
+        // An edge source shows the latch that it had as a level source.
+        for &source in &shown {
+            let active_low = self.machine.source(source as usize).active_low;
+            self.set_gateway(source, true, active_low);
+        }
+        self.pending_words();
+        self.capture();
+        self.read_claim();
+    }
+
+    /// Returns from all handlers, with a look at each level.
+    pub fn unwind(&mut self) {
+        while !self.machine.handlers.is_empty() && !self.full() {
+            if self.machine.mask {
+                self.set_mask(0);
+            }
+            if self.random.coin() {
+                self.chain();
+                self.csr_read(MEIHAP);
+            }
+            self.give_back();
+            self.csr_read(MEICURPL);
+        }
+    }
+}
