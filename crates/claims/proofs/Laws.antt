@@ -1,38 +1,36 @@
 -- The machine meets the laws of nested handlers, so demand 3 holds for every list of events.
-use Prim.Native.Nat.{ℕ, zero, suc, _+_, _-_, _*_, _^_, _≤_, _<_}
+use Prim.Native.Nat.{ℕ, _-_, _≤_, _<_}
 use mathlib.Core.Path.{_≡_, refl, sym, ap, _∙_}
-use mathlib.Core.Bool.{Bool, true, false, cond, not, _&&_, _||_}
-use mathlib.Core.Logic.{_⊎_, inl, inr, ⊎-elim}
-use mathlib.Core.List.{List, [], _∷_, _++_}
+use mathlib.Core.Bool.{Bool, true, false, cond, _||_}
+use mathlib.Core.Logic.{_⊎_, inl, inr}
 use native.Mathlib.Omega.{arith}
-use lib.ListN.{length, getD, set}
-use lib.Dec.{leb, ltb, eqb}
+use lib.ListN.{length}
+use lib.Dec.{leb, eqb}
 use lib.IntN.{pos}
 use lib.Signed.{ltZ}
-use borrow.Author.Tests.{eqb-true, eqb-false, ltb-true, ne-eqb, eq-eqb}
+use borrow.Author.Tests.{eqb-true, eqb-false, ltb-true, ne-eqb}
 use Rattle.event.specs.Event.{kindOf, addressOf, shapeOf}
 use Rattle.pic.specs.declared.Controller.{Controller}
 use Rattle.pic.specs.declared.Capture.{Capture}
 use Rattle.pic.specs.declared.Rank.{Rank}
-use Rattle.pic.specs.Sources.{rankAt, enableAt, pendingAt, Served}
+use Rattle.pic.specs.Sources.{rankAt, enableAt, pendingAt}
 use Rattle.pic.specs.Sound as pic
 use Rattle.pic.specs.Calls as calls
-use Rattle.pic.proofs.Bools.{and-parts, le-cases, eq-cases}
+use Rattle.pic.proofs.Bools.{and-parts, le-cases}
 use Rattle.pic.proofs.Captures.{Captured, captured-served, margin-over, above-over}
 use Rattle.pic.proofs.Winning.{eligible-parts, eligible-is}
-use Rattle.nesting.specs.Claim.{Class, isTaking, isChaining, isReturn, isOther, Does, Pushed, Swapped, Popped, Laws, Nested}
+use Rattle.nesting.specs.Claim.{isOther, Does, Pushed, Swapped, Laws}
 use Rattle.nesting.specs.Held.{held}
 use Rattle.nesting.proofs.Held.{held-push, held-pop, held-swap, held-mark, held-top}
 use Rattle.nesting.proofs.Nesting.{nesting}
-use Rattle.handlers.specs.declared.Handler.{Handler}
 use Rattle.handlers.specs.declared.Machine.{Machine}
 use Rattle.handlers.specs.declared.Outcome.{Outcome}
 use Rattle.handlers.specs.Fields.{withMask}
 use Rattle.handlers.specs.Machines.{blank, uppermost, isOpen, soundOf, powerOnOf}
 use Rattle.handlers.specs.Service.{accepted, refused, ask, lifted, mayWrite, newHandler, taken, marked, opened, serves, replaced, captured, chained, returned, hasHandler, sampleOf, loadOf, storeOf, csrReadOf, csrWriteOf, takeOf, openOf, chainOf, returnOf, setMaskOf, eventOf, stepOf}
-use Rattle.handlers.proofs.Facts.{facts, Sound, room, top-fine}
+use Rattle.handlers.proofs.Facts.{facts, Sound, room}
 use Rattle.handlers.proofs.Kept.{Ready, asked, step-ready, power-on-ready, top-current}
-use Rattle.claims.specs.Nested.{Event, word, Answer, answerOf, classBy, seen, Won, eh1, Demand3}
+use Rattle.claims.specs.Nested.{word, answerOf, classBy, seen, Won, eh1, Demand3}
 
 -- A served winner above the threshold is the one to serve.
 won : (c : Controller) (k : Capture) → Captured c k → c .threshold .0 < k .winner .rank .0 → Won c (k .winner .source)

@@ -1,12 +1,12 @@
 -- Lists of events played: one event more, and the claim for the list that was played.
-use Prim.Native.Nat.{ℕ, zero, suc, _+_, _-_, _%_, _^_, _≤_, _<_}
+use Prim.Native.Nat.{ℕ, zero, suc, _+_, _^_, _≤_, _<_}
 use mathlib.Core.Path.{_≡_, refl, sym, ap, _∙_}
 use mathlib.Core.Bool.{Bool, true, false, cond}
 use mathlib.Core.List.{List, [], _∷_, _++_, append-assoc}
 use native.Mathlib.Numerals.{add-one}
 use native.Mathlib.Omega.{arith}
-use lib.ListN.{length, getD, take, drop, set, length-append, length-set}
-use lib.Seq.{drop-cons, set-append-seam, getD-take, length-take-le}
+use lib.ListN.{length, getD, take, drop, set, length-append}
+use lib.Seq.{drop-cons, set-append-seam}
 use lib.Dec.{ltb}
 use borrow.Author.Tests.{ltb-true, ltb-false}
 use Rattle.nesting.specs.Claim as claim
@@ -16,7 +16,7 @@ use Rattle.handlers.specs.Machines.{powerOnOf}
 use Rattle.handlers.specs.Service.{stepOf}
 use Rattle.claims.specs.declared.Played.{Played}
 use Rattle.claims.specs.Play.{least, endOf, eachOf, filled, countOf, playedOf}
-use Rattle.claims.specs.Nested.{Event, word, eh1, eventsOf, Claimed}
+use Rattle.claims.specs.Nested.{word, eh1, eventsOf, Claimed}
 use Rattle.claims.proofs.Laws.{demand-3}
 
 -- The lesser of two is at most each of them.

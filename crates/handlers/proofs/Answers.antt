@@ -1,9 +1,9 @@
 -- Each answer of a call, from what its questions showed. The handlers' part of soundness is tested here, the controller's by the controller's own call.
-use Prim.Native.Nat.{ℕ, zero, suc, _+_, _-_, _≤_, _<_}
+use Prim.Native.Nat.{ℕ, _≤_, _<_}
 use mathlib.Core.Path.{_≡_, refl, sym, ap, _∙_}
 use mathlib.Core.Bool.{Bool, true, false, cond, not, _&&_, _||_}
 use native.Mathlib.Omega.{arith}
-use lib.Dec.{leb, ltb, eqb}
+use lib.Dec.{leb, eqb}
 use lib.IntN.{pos}
 use borrow.Author.Tests.{le-leb, lt-leb, not-true, not-false}
 use Rattle.pic.specs.declared.Capture.{Capture}

@@ -1,11 +1,10 @@
 -- What soundness of a machine says, in numbers: the Bool of the rules taken apart and put together; and why a handler above the current rank finds a place.
-use Prim.Native.Nat.{ℕ, zero, suc, _+_, _-_, _≤_, _<_}
+use Prim.Native.Nat.{ℕ, zero, suc, _-_, _≤_, _<_}
 use mathlib.Core.Path.{_≡_, refl, sym, ap, _∙_}
-use mathlib.Core.Bool.{Bool, true, false, cond, _&&_, _||_}
+use mathlib.Core.Bool.{true}
 use mathlib.Core.Logic.{_⊎_, inl, inr, ⊎-elim}
 use native.Mathlib.Omega.{arith}
-use lib.ListN.{getD}
-use lib.Dec.{leb, ltb, eqb}
+use lib.Dec.{leb, eqb}
 use lib.IntN.{pos}
 use lib.Signed.{ltZ}
 use borrow.Author.Tests.{leb-true, ltb-true, eqb-true, le-leb, eq-eqb}
@@ -21,7 +20,7 @@ use Rattle.pic.proofs.Kept.{capture-is}
 use Rattle.pic.proofs.Bools.{and-parts, or-cases, or-intro}
 use Rattle.handlers.specs.declared.Handler.{Handler}
 use Rattle.handlers.specs.declared.Machine.{Machine}
-use Rattle.handlers.specs.Machines.{blank, uppermost, handlersSound, levelOf, currentFits, isOpen, maskFits, stackSound, soundOf}
+use Rattle.handlers.specs.Machines.{uppermost, handlersSound, levelOf, currentFits, isOpen, maskFits, stackSound, soundOf}
 use Rattle.handlers.proofs.Stacks.{Fine, each, each-back, rank-high}
 
 -- The handlers' part of soundness.

@@ -1,34 +1,31 @@
 -- Every event keeps a sound machine sound.
 use Prim.Native.Nat.{ℕ, zero, suc, _+_, _-_, _^_, _≤_, _<_}
 use mathlib.Core.Path.{_≡_, refl, sym, ap, _∙_}
-use mathlib.Core.Bool.{Bool, true, false, cond, not, _&&_, _||_}
-use mathlib.Core.List.{List}
+use mathlib.Core.Bool.{Bool, true, false, cond, not, _||_}
 use mathlib.Core.Logic.{_⊎_, inl, inr, ⊎-elim}
-use native.Mathlib.Numerals.{add-one}
 use native.Mathlib.Omega.{arith}
-use lib.ListN.{length, getD, set, length-set, length-replicate}
+use lib.ListN.{length, getD, set, length-set}
 use lib.Seq.{getD-set-same}
-use lib.Dec.{leb, ltb, eqb}
+use lib.Dec.{leb, eqb}
 use lib.IntN.{pos}
 use lib.Signed.{ltZ}
 use borrow.Author.Tests.{eqb-true, eqb-false, ltb-true, leb-true, not-true}
 use Rattle.event.specs.Event.{kindOf, addressOf, shapeOf}
 use Rattle.pic.specs.declared.Controller.{Controller}
 use Rattle.pic.specs.declared.Rank.{Rank}
-use Rattle.pic.specs.Fields.{withCurrent}
 use Rattle.pic.specs.Sound as pic
 use Rattle.pic.specs.Calls as calls
-use Rattle.pic.proofs.Bools.{never, and-parts, or-cases, eq-cases}
+use Rattle.pic.proofs.Bools.{and-parts, or-cases, eq-cases}
 use Rattle.pic.proofs.Kept.{sample-sound, sample-sources, sample-current, store-sound, store-sources, store-current, csr-write-sound, csr-write-sources, csr-write-current, load-same, csr-read-same, capture-sound, capture-parts, current-sound, power-on-sound}
 use Rattle.pic.proofs.Captures.{captured-served, margin-over}
 use Rattle.handlers.specs.declared.Handler.{Handler}
 use Rattle.handlers.specs.declared.Machine.{Machine}
 use Rattle.handlers.specs.declared.Outcome.{Outcome}
-use Rattle.handlers.specs.Fields.{withController, withMask, withStack}
+use Rattle.handlers.specs.Fields.{withController, withMask}
 use Rattle.handlers.specs.Machines.{blank, uppermost, belowOf, levelOf, isOpen, soundOf, powerOnOf}
-use Rattle.handlers.specs.Service.{accepted, refused, ask, lifted, mayWrite, hasHandler, newHandler, taken, marked, opened, serves, replaced, captured, chained, returned, sampleOf, loadOf, storeOf, csrReadOf, csrWriteOf, takeOf, openOf, chainOf, returnOf, setMaskOf, eventOf, stepOf}
+use Rattle.handlers.specs.Service.{accepted, ask, lifted, mayWrite, hasHandler, newHandler, taken, marked, opened, serves, replaced, captured, chained, returned, sampleOf, loadOf, storeOf, csrReadOf, csrWriteOf, takeOf, openOf, chainOf, returnOf, setMaskOf, eventOf, stepOf}
 use Rattle.handlers.proofs.Stacks.{Fine, Stored, fine-kept, fine-stored, fine-popped}
-use Rattle.handlers.proofs.Facts.{StackFacts, Sound, facts, sound, top-fine, level-opened, room}
+use Rattle.handlers.proofs.Facts.{StackFacts, facts, sound, top-fine, level-opened, room}
 
 -- A sound machine whose stack has its fifteen places.
 pub record Ready (m : Machine) : Type 0 where

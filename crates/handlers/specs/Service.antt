@@ -1,14 +1,11 @@
 -- Document 01, "Handler service", and the questions 8 and 14 to 21: what each event does and answers.
-use Prim.Native.Nat.{ℕ, zero, suc, _+_, _-_}
-use mathlib.Core.Bool.{Bool, true, false, cond, not, _&&_, _||_}
-use mathlib.Core.List.{List}
+use Prim.Native.Nat.{ℕ, _+_, _-_}
+use mathlib.Core.Bool.{Bool, cond, not, _&&_, _||_}
 use lib.ListN.{set}
 use lib.Dec.{leb, ltb, eqb}
-use lib.IntN.{ℤ, pos}
+use lib.IntN.{pos}
 use lib.Signed.{ltZ}
 use Rattle.event.specs.Event.{kindOf, addressOf, shapeOf}
-use Rattle.pic.specs.declared.Controller.{Controller}
-use Rattle.pic.specs.declared.Rank.{Rank}
 use Rattle.pic.specs.declared.Margin.{Margin}
 use Rattle.pic.specs.declared.Outcome as controller
 use Rattle.pic.specs.Fields.{withCurrent}

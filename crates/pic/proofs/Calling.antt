@@ -1,19 +1,17 @@
 -- Each answer of a call, from what its questions showed.
-use Prim.Native.Nat.{ℕ, _+_, _*_, _/_, _%_, _^_, _≤_, _<_}
-use mathlib.Core.Path.{_≡_, refl, sym, ap, _∙_}
+use Prim.Native.Nat.{ℕ, _/_, _%_, _^_, _<_}
+use mathlib.Core.Path.{_≡_, refl, sym, _∙_}
 use mathlib.Core.Bool.{Bool, true, false, cond, not, _&&_}
 use native.Mathlib.Omega.{arith}
 use lib.ListN.{length}
 use lib.Dec.{leb, ltb, eqb}
-use borrow.Author.Tests.{le-leb, lt-ltb, le-ltb, lt-leb, eq-eqb, ne-eqb, not-true, not-false}
+use borrow.Author.Tests.{le-leb, lt-ltb, not-true, not-false}
 use Rattle.pic.specs.declared.Controller.{Controller}
-use Rattle.pic.specs.declared.Register.{Register}
 use Rattle.pic.specs.declared.Register.the-variants.{Meipl, Meip, Meie, Mpiccfg, Meigwctrl, Meigwclr, NoRegister}
 use Rattle.pic.specs.Sources.{isSource, settle}
 use Rattle.pic.specs.Sound.{soundOf, sourcesSound}
 use Rattle.pic.specs.Registers.{isRegister, sourceRegister, pageRegister, registerAt}
-use Rattle.pic.proofs.Bools.{decided}
-use Rattle.pic.proofs.Soundness.{Sound, facts, settle-same}
+use Rattle.pic.proofs.Soundness.{facts, settle-same}
 
 -- What `is_sound` tests is soundness: the rest holds by the types.
 module _ (c : Controller) (n : c .sources < 256) (b : c .base < 2 ^ 32) where

@@ -1,8 +1,8 @@
 -- What a capture tells the layer above: whom it serves, and that it is above threshold and current.
-use Prim.Native.Nat.{ℕ, _+_, _*_, _≤_, _<_}
+use Prim.Native.Nat.{_+_, _*_, _≤_, _<_}
 use mathlib.Core.Path.{_≡_, refl, sym, ap, _∙_}
-use mathlib.Core.Bool.{Bool, true, false}
-use mathlib.Core.Logic.{_⊎_, inl, inr}
+use mathlib.Core.Bool.{true}
+use mathlib.Core.Logic.{inl, inr}
 use native.Mathlib.Omega.{arith}
 use lib.Dec.{ltb}
 use lib.IntN.{pos}
@@ -11,9 +11,9 @@ use borrow.Author.Tests.{ltb-true}
 use Rattle.pic.specs.declared.Controller.{Controller}
 use Rattle.pic.specs.declared.Capture.{Capture}
 use Rattle.pic.specs.declared.Winner.{Winner}
-use Rattle.pic.specs.Sources.{Served, Idle, IsWinner, winnerOf, higherOf, marginOf}
+use Rattle.pic.specs.Sources.{Served, IsWinner, winnerOf, higherOf, marginOf}
 use Rattle.pic.specs.Sound.{soundOf}
-use Rattle.pic.specs.Calls.{capturing, captureOf}
+use Rattle.pic.specs.Calls.{captureOf}
 use Rattle.pic.proofs.Kept.{capture-is}
 use Rattle.pic.proofs.Margins.{higher-is, margin-above}
 use Rattle.pic.proofs.Soundness.{facts}

@@ -1,11 +1,11 @@
 -- What the calls keep: soundness, the number of sources, the current rank, and all of it where they only read.
 use Prim.Native.Nat.{ℕ, zero, suc, _+_, _*_, _/_, _%_, _^_, _≤_, _<_}
-use mathlib.Core.Path.{_≡_, refl, sym, ap, _∙_}
+use mathlib.Core.Path.{_≡_, refl}
 use mathlib.Core.Bool.{Bool, true, false, cond, not}
 use mathlib.Core.List.{List}
 use native.Mathlib.Omega.{arith}
-use lib.ListN.{length, getD, set, replicate, length-replicate, getD-replicate}
-use lib.Dec.{leb, ltb, eqb}
+use lib.ListN.{set, replicate, length-replicate, getD-replicate}
+use lib.Dec.{leb, eqb}
 use lib.IntN.{pos}
 use borrow.Author.Tests.{leb-true}
 use Rattle.pic.specs.declared.Controller.{Controller}
@@ -16,12 +16,12 @@ use Rattle.pic.specs.declared.Register.the-variants.{Meipl, Meip, Meie, 
 use Rattle.pic.specs.declared.Csr.{Csr}
 use Rattle.pic.specs.declared.Csr.the-variants.{Meivt, Meipt, Meicpct, Meicidpl, Meicurpl, Meihap, NoCsr}
 use Rattle.pic.specs.Fields.{withCurrent}
-use Rattle.pic.specs.Ranks.{fieldOf, field, rankOf}
-use Rattle.pic.specs.Sources.{isSource, settle, winnerOf, marginOf, captured}
+use Rattle.pic.specs.Ranks.{fieldOf}
+use Rattle.pic.specs.Sources.{isSource, settle, captured}
 use Rattle.pic.specs.Sound.{initial, isCount, soundOf}
 use Rattle.pic.specs.Registers.{bitOf, linesTo, sampled, registerAt, readOf, writtenRank, writtenOf, csrAt, isCsr, csrValue, csrWritten}
 use Rattle.pic.specs.Calls.{handed, accepted, refused, ask, offsetRefusal, powerOnOf, sampleOf, loadOf, storeOf, csrReadOf, csrWriteOf, marginAnswer, capturing, notCaptured, captureOf}
-use Rattle.pic.proofs.Bools.{and-parts, never}
+use Rattle.pic.proofs.Bools.{and-parts}
 use Rattle.pic.proofs.Offsets.{csr-address}
 use Rattle.pic.proofs.Mirror.{mirror-small, rank-written}
 use Rattle.pic.proofs.Soundness.{Column, column-set, Base, InRange, Sound, facts, sound, settle-same, settle-sound}
@@ -346,11 +346,7 @@ module _ (c : Controller) (e : soundOf c ≡ false) where
   unfolding marginAnswer
   margin-8 = rw e
 
--- On a sound controller a capture captures, and the query gives the margin.
+-- On a sound controller a capture captures.
 pub capture-is : (c : Controller) → soundOf c ≡ true → captureOf c ≡ capturing c
 unfolding captureOf
 capture-is c e = rw e
-
-pub margin-is : (c : Controller) → soundOf c ≡ true → marginAnswer c ≡ record { margin = marginOf c; refusal = 0 }
-unfolding marginAnswer
-margin-is c e = rw e

@@ -1,6 +1,6 @@
 -- The latches after an event: 01's sentence about every source, and what the code does at one.
-use Prim.Native.Nat.{ℕ, zero, suc, _+_, _≤_, _<_}
-use mathlib.Core.Path.{_≡_, refl, sym, ap, _∙_}
+use Prim.Native.Nat.{ℕ, zero, suc, _≤_, _<_}
+use mathlib.Core.Path.{_≡_, refl, sym, _∙_}
 use mathlib.Core.Bool.{Bool, true, false, cond}
 use mathlib.Core.List.{List}
 use mathlib.Core.Logic.{_⊎_, inl, inr, ⊎-elim}
@@ -8,17 +8,9 @@ use native.Mathlib.Omega.{arith}
 use lib.ListN.{length, getD, set, length-set}
 use lib.Seq.{getD-set-same, getD-set-other, set-getD, ext-getD}
 use lib.Dec.{eqb}
-use borrow.Author.Tests.{eqb-true, eqb-false, eq-eqb, ne-eqb}
+use borrow.Author.Tests.{eqb-true, eqb-false}
 use Rattle.pic.specs.Sources.{isActive, latchAfter, latchesTo}
 use Rattle.pic.proofs.Bools.{le-cases, eq-cases}
-
--- An element of a list that was set at one place.
-pub getD-set : (l : List ℕ) (i j v : ℕ) → i < length l → getD (set l i v) j 0 ≡ cond (eqb j i) v (getD l j 0)
-getD-set l i j v h = go (eqb j i) refl
-  where
-    go : (t : Bool) → eqb j i ≡ t → getD (set l i v) j 0 ≡ cond (eqb j i) v (getD l j 0)
-    go true e = rw (e, eqb-true j i e) (getD-set-same l i v 0 h)
-    go false e = rw e (getD-set-other l i j v 0 (eqb-false j i e))
 
 module _ (line polarity latch : List ℕ) where
   -- The latch of source s after the event.

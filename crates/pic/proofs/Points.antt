@@ -2,10 +2,10 @@
 use Prim.Native.Nat.{ℕ}
 use mathlib.Core.Path.{_≡_, refl}
 use mathlib.Core.List.{List, [], _∷_}
-use lib.IntN.{ℤ, pos, negsuc}
+use lib.IntN.{pos, negsuc}
 use Rattle.pic.specs.declared.Controller.{Controller}
 use Rattle.pic.specs.Ranks.{mirror}
-use Rattle.pic.specs.Sources.{latchesTo, isPending, isEligible, entryOf, betterOf, winnerTo, winnerOf, higherOf, gapOf, marginOf, activeAt, latchAt, pendingAt}
+use Rattle.pic.specs.Sources.{latchesTo, isPending, isEligible, entryOf, betterOf, winnerTo, winnerOf, higherOf, gapOf}
 use Rattle.pic.specs.Sound.{initial, sourceSound, sourcesSound, soundOf}
 use Rattle.pic.specs.Registers.{linesTo, sourceRegister, pageRegister, joinOf, pendingTo, readOf, writtenOf, csrAt, csrValue, csrWritten}
 use Rattle.pic.specs.Calls.{sampleOf, offsetRefusal, loadOf, storeOf, csrReadOf, csrWriteOf, marginAnswer}

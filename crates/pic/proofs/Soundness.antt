@@ -1,18 +1,18 @@
 -- What soundness says, in numbers: the Bool of the rules taken apart and put together, for this crate and those above.
-use Prim.Native.Nat.{ℕ, zero, suc, _+_, _*_, _/_, _%_, _^_, _≤_, _<_}
-use mathlib.Core.Path.{_≡_, refl, sym, ap, _∙_}
-use mathlib.Core.Bool.{Bool, true, false, cond, not, _&&_, _||_}
-use mathlib.Core.List.{List, [], _∷_}
-use mathlib.Core.Logic.{_⊎_, inl, inr, ⊎-elim}
+use Prim.Native.Nat.{ℕ, zero, suc, _+_, _*_, _%_, _^_, _≤_, _<_}
+use mathlib.Core.Path.{_≡_, refl, sym}
+use mathlib.Core.Bool.{Bool, true, false, cond, _||_}
+use mathlib.Core.List.{List}
+use mathlib.Core.Logic.{⊎-elim}
 use native.Mathlib.Omega.{arith}
 use lib.ListN.{length, getD, set, length-set}
 use lib.Seq.{getD-set-same, getD-set-other}
-use lib.Dec.{leb, ltb, eqb}
-use borrow.Author.Tests.{leb-true, ltb-true, eqb-true, eqb-false, le-leb, lt-ltb, eq-eqb, ne-eqb}
+use lib.Dec.{leb, eqb}
+use borrow.Author.Tests.{leb-true, ltb-true, eqb-true, eqb-false, le-leb, lt-ltb, eq-eqb}
 use Rattle.pic.specs.declared.Controller.{Controller}
 use Rattle.pic.specs.Sources.{isSource, rankAt, enableAt, triggerAt, polarityAt, lineAt, latchAt, isActive, latchAfter, settle, latchesTo}
-use Rattle.pic.specs.Sound.{all, placeTests, sourceTests, sourceSound, sourceSoundAt, sourcesSound, soundTests, soundOf}
-use Rattle.pic.proofs.Bools.{never, and-parts, or-cases, decided, eq-cases, all-at}
+use Rattle.pic.specs.Sound.{placeTests, sourceTests, sourceSound, sourceSoundAt, sourcesSound, soundTests, soundOf}
+use Rattle.pic.proofs.Bools.{and-parts, or-cases, eq-cases, all-at}
 use Rattle.pic.proofs.Latches.{length-latches, latch-in, latches-same, after-after}
 
 -- An array with a place for each of the n sources, whose values at the sources are at most m.
@@ -214,6 +214,3 @@ meihap-fits c h s b =
 -- What the test for a source says.
 pub source-range : (n s : ℕ) → isSource n s ≡ true → (1 ≤ s) × (s ≤ n)
 source-range n s e = let p = and-parts (leb 1 s) (leb s n) e in (leb-true 1 s (p .0), leb-true s n (p .1))
-
-pub source-is : (n s : ℕ) → 1 ≤ s → s ≤ n → isSource n s ≡ true
-source-is n s a b = rw (le-leb 1 s a, le-leb s n b)

@@ -10,8 +10,8 @@ use Rattle.pic.specs.declared.Controller.{Controller}
 use Rattle.pic.specs.declared.Rank.{Rank}
 use Rattle.pic.specs.declared.Winner.{Winner}
 use Rattle.pic.specs.Ranks.{rank}
-use Rattle.pic.specs.Sources.{rankAt, enableAt, pendingAt, isEligible, eligibleAt, entryOf, betterOf, nobody, winnerTo, winnerOf, Eligible, Before, Served, Idle, IsWinner}
-use Rattle.pic.proofs.Bools.{never, and-parts, eq-cases, le-cases}
+use Rattle.pic.specs.Sources.{rankAt, enableAt, pendingAt, isEligible, eligibleAt, entryOf, betterOf, winnerTo, winnerOf, Eligible, Before, IsWinner}
+use Rattle.pic.proofs.Bools.{never, and-parts, eq-cases}
 use Rattle.pic.proofs.Soundness.{Sound}
 
 -- An eligible source is enabled, pending, and of rank 1 or more.

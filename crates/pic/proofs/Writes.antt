@@ -1,8 +1,7 @@
 -- The code settles no latch, or one, where the rules settle all: on a sound controller that is the same.
-use Prim.Native.Nat.{ℕ, zero, suc, _+_, _*_, _/_, _%_, _≤_, _<_}
+use Prim.Native.Nat.{ℕ, zero, suc, _+_, _*_, _%_, _≤_, _<_}
 use mathlib.Core.Path.{_≡_, refl, sym, ap, _∙_}
 use mathlib.Core.Bool.{Bool, true, false, cond}
-use mathlib.Core.List.{List}
 use native.Mathlib.Numerals.{add-one}
 use native.Mathlib.Omega.{arith}
 use lib.ListN.{length, getD, set, length-set}
@@ -11,8 +10,8 @@ use Rattle.pic.specs.declared.Controller.{Controller}
 use Rattle.pic.specs.declared.Register.the-variants.{Meigwctrl, Meigwclr}
 use Rattle.pic.specs.Fields.{withLine, withLatch}
 use Rattle.pic.specs.Sources.{isSource, lineAt, polarityAt, latchAt, latchAfter, latchesTo, settle, settleAt}
-use Rattle.pic.specs.Registers.{bitOf, linesTo, sampled, writtenOf}
-use Rattle.pic.proofs.Latches.{at, length-latches, latch-in, latches-same, latches-one, latches-line}
+use Rattle.pic.specs.Registers.{bitOf, linesTo, writtenOf}
+use Rattle.pic.proofs.Latches.{latch-in, latches-same, latches-one, latches-line}
 use Rattle.pic.proofs.Soundness.{Sound, source-range}
 use Rattle.pic.proofs.Words.{lines-length}
 

@@ -1,8 +1,8 @@
 -- Document 01, "Questions, first no decides": what each call of the controller answers. Question 8 comes first; 6, 7 and 14 are asked above.
-use Prim.Native.Nat.{ℕ, _<_, _%_}
-use mathlib.Core.Bool.{Bool, true, false, cond, not}
+use Prim.Native.Nat.{ℕ, _%_}
+use mathlib.Core.Bool.{Bool, false, cond, not}
 use lib.Dec.{leb, ltb, eqb}
-use lib.IntN.{ℤ, pos}
+use lib.IntN.{pos}
 use Rattle.pic.specs.declared.Controller.{Controller}
 use Rattle.pic.specs.declared.Outcome.{Outcome}
 use Rattle.pic.specs.declared.Margin.{Margin}

@@ -4,24 +4,6 @@ use mathlib.Core.List.{List}
 use Rattle.pic.specs.declared.Controller.{Controller}
 use Rattle.pic.specs.declared.Rank.{Rank}
 
-abbrev pub withSources : Controller → ℕ → Controller
-withSources m v =
-    record {
-      sources = v;
-      rank = m .rank;
-      enable = m .enable;
-      trigger = m .trigger;
-      polarity = m .polarity;
-      line = m .line;
-      latch = m .latch;
-      priord = m .priord;
-      base = m .base;
-      claim = m .claim;
-      threshold = m .threshold;
-      claimed = m .claimed;
-      current = m .current;
-    }
-
 abbrev pub withRank : Controller → List ℕ → Controller
 withRank m v =
     record {

@@ -2,8 +2,8 @@
 use Prim.Native.Nat.{ℕ, zero, suc, _+_, _*_, _/_, _%_, _^_}
 use mathlib.Core.Bool.{Bool, true, false, cond, _&&_}
 use mathlib.Core.List.{List}
-use lib.ListN.{getD, set}
-use lib.Dec.{leb, ltb, eqb}
+use lib.ListN.{set}
+use lib.Dec.{ltb, eqb}
 use Rattle.pic.specs.declared.Controller.{Controller}
 use Rattle.pic.specs.declared.Register.{Register}
 use Rattle.pic.specs.declared.Register.the-variants.{Meipl, Meip, Meie, Mpiccfg, Meigwctrl, Meigwclr, NoRegister}

@@ -1,8 +1,8 @@
 -- Document 01, "Lines, latches, winner".
-use Prim.Native.Nat.{ℕ, zero, suc, _+_, _*_, _≤_, _<_}
+use Prim.Native.Nat.{ℕ, zero, suc, _≤_, _<_}
 use mathlib.Core.Path.{_≡_}
 use mathlib.Core.Logic.{_⊎_}
-use mathlib.Core.Bool.{Bool, true, false, cond, not, _&&_}
+use mathlib.Core.Bool.{Bool, true, cond, not, _&&_}
 use mathlib.Core.List.{List}
 use lib.ListN.{getD, set}
 use lib.Dec.{leb, ltb, eqb}
@@ -39,9 +39,6 @@ latchAt c s = getD (c .latch) s 0
 -- A line is active when line differs from polarity (polarity 0 active high, 1 active low).
 abbrev pub isActive : ℕ → ℕ → Bool
 isActive line polarity = not (eqb line polarity)
-
-abbrev pub activeAt : Controller → ℕ → Bool
-activeAt c s = isActive (lineAt c s) (polarityAt c s)
 
 -- After each accepted event, a latch is set if its line is active, or if it was set and this event didn't clear it. An event that clears a latch
 -- makes it 0 first; `settle` is the rest, for every source.

@@ -1,5 +1,4 @@
 -- The listing of document 01: N 4 and ten events, as bytes and back, computed by the rules.
-use mathlib.Core.Bool.{cond}
 use mathlib.Core.Path.{_≡_, refl}
 use Prim.Native.Nat.{ℕ}
 use mathlib.Core.List.{List, [], _∷_}

@@ -1,5 +1,4 @@
 -- Document 01, "The record": its bytes, and the limits of the board.
-use mathlib.Core.Bool.{cond}
 use Prim.Native.Nat.{ℕ, _+_}
 use mathlib.Core.List.{List, _∷_, _++_}
 use lib.ListN.{length, getD, take, drop}

@@ -2,15 +2,11 @@ use borrow.Author.Tests.{lt-ltb, le-ltb}
 use Rattle.claims.specs.Play.{least}
 use Rattle.claims.proofs.lesser.Statement.{statement}
 use Rattle.claims.proofs.lesser.Tie as tie
-use Rattle.claims.proofs.lesser.Reads as reads
-use Rattle.claims.proofs.lesser.Lts as lts
 
--- src/lib.rt:17:1
 returns : tie.Need-returns
 unfolding least
 returns c = rw (lt-ltb _ _ (c .if1 .taken))
 
--- src/lib.rt:17:1
 returns-2 : tie.Need-returns-2
 unfolding least
 returns-2 c = rw (le-ltb _ _ (c .if1 .left))

@@ -1,9 +1,9 @@
 use lib.ListN.{length-set}
 use Rattle.claims.proofs.Playing.{machine-end, played-end, stored-end}
-use Prim.Native.Nat.{ℕ, _≤_, _<_, _-_, _+_}
-use mathlib.Core.Path.{_≡_, refl, sym, ap, _∙_}
+use Prim.Native.Nat.{ℕ, _≤_, _<_, _-_}
+use mathlib.Core.Path.{_≡_, refl}
 use native.Mathlib.Omega.{arith}
-use lib.ListN.{length, take, getD}
+use lib.ListN.{length, take}
 use borrow.Author.Needs.{scaled-fits}
 use Rattle.handlers.specs.declared.Outcome.{Outcome}
 use Rattle.claims.specs.Play.{endOf, eachOf, answersOf, refusalsOf, filled}
@@ -11,11 +11,6 @@ use Rattle.claims.proofs.Playing.{Fits, count-fits, machine-turn, store
 use borrow.Author.Needs.{needs}
 use Rattle.claims.proofs.play.Statement.{statement}
 use Rattle.claims.proofs.play.Tie as tie
-use Rattle.claims.proofs.play.Reads as reads
-use Rattle.claims.proofs.play.Lts as lts
-use Rattle.claims.proofs.lesser.Reads as lesser-reads
-use Rattle.handlers.proofs.Machine.power_on.Reads as power-on-reads
-use Rattle.handlers.proofs.Machine.step.Reads as step-reads
 
 abbrev Inv-loop : tie.InvT-loop
 Inv-loop n heads values answers₀ refusals₀ on m₀ k i₀ answers refusals m i =
@@ -46,68 +41,52 @@ inside i k a b c d l f =
       refusals = omega (arith, f .refusals);
     }
 
--- src/lib.rt:37:9
 power-on-requires : tie.Need-power-on-requires Inv-loop μ-loop
 power-on-requires c κs = search needs
 
--- src/lib.rt:40:9
 lesser-requires : tie.Need-lesser-requires Inv-loop μ-loop
 lesser-requires c κs = search needs
 
--- src/lib.rt:41:9
 lesser-requires-2 : tie.Need-lesser-requires-2 Inv-loop μ-loop
 lesser-requires-2 c κs = search needs
 
--- src/lib.rt:39:9
 lesser-requires-3 : tie.Need-lesser-requires-3 Inv-loop μ-loop
 lesser-requires-3 c κs = search needs
 
--- src/lib.rt:44:5
 loop-holds : tie.Need-loop-holds Inv-loop μ-loop
 unfolding endOf eachOf
 loop-holds c = (search needs, rw (c .lesser3 .ensures, c .before .lesser2 .ensures, c .before .before .lesser .ensures) (count-fits _ _ _ _), refl, refl, refl, refl, refl)
 
--- src/lib.rt:45:26
 mul-step : tie.Need-mul-step Inv-loop μ-loop
 mul-step c = scaled-fits _ _ 4 (inside _ _ _ _ _ _ (c .loop-test .taken) (c .before .loop .inv .1) .heads) (c .before .before .before .before .before .before .before .before .before .before .before .good .1 .0 .1)
 
--- src/lib.rt:45:26
 shared-slice-read-step : tie.Need-shared-slice-read-step Inv-loop μ-loop
 shared-slice-read-step c = inside _ _ _ _ _ _ (c .before .loop-test .taken) (c .before .before .loop .inv .1) .heads
 
--- src/lib.rt:45:36
 mul-step-2 : tie.Need-mul-step-2 Inv-loop μ-loop
 mul-step-2 c = search needs
 
--- src/lib.rt:45:36
 shared-slice-read-step-2 : tie.Need-shared-slice-read-step-2 Inv-loop μ-loop
 shared-slice-read-step-2 c = search needs
 
--- src/lib.rt:45:13
 step-requires : tie.Need-step-requires Inv-loop μ-loop
 step-requires c κs = search needs
 
--- src/lib.rt:46:9
 mul-answers : tie.Need-mul-answers Inv-loop μ-loop
 mul-answers c = scaled-fits _ _ 4 (inside _ _ _ _ _ _ (c .before .before .before .loop-test .taken) (c .before .before .before .before .loop .inv .1) .heads) (c .before .before .before .before .before .before .before .before .before .before .before .before .before .before .good .1 .0 .1)
 
--- src/lib.rt:46:9
 slice-write-answers : tie.Need-slice-write-answers Inv-loop μ-loop
 slice-write-answers c = search needs
 
--- src/lib.rt:47:9
 slice-write-refusals : tie.Need-slice-write-refusals Inv-loop μ-loop
 slice-write-refusals c = search needs
 
--- src/lib.rt:49:9
 add-i : tie.Need-add-i Inv-loop μ-loop
 add-i c = search needs
 
--- src/lib.rt:44:5
 loop-less : tie.Need-loop-less Inv-loop μ-loop
 loop-less c = search needs
 
--- src/lib.rt:44:5
 loop-again : tie.Need-loop-again Inv-loop μ-loop
 loop-again c =
     let v = c .before .before .before .before .before .loop .inv in
@@ -121,15 +100,12 @@ loop-again c =
       stored-turn _ _ _ _ (p .heads) (p .values) (v .4) (λ (o : Outcome). o .refusal) _ (c .before .step .ensures) (p .refusals) (v .6),
     )
 
--- src/lib.rt:25:1
 same-length : tie.Need-same-length Inv-loop μ-loop
 same-length c = search needs
 
--- src/lib.rt:25:1
 same-length-2 : tie.Need-same-length-2 Inv-loop μ-loop
 same-length-2 c = search needs
 
--- src/lib.rt:25:1
 returns : tie.Need-returns Inv-loop μ-loop
 returns c =
     let v = c .before .loop .inv in

@@ -1,4 +1,3 @@
-use mathlib.Core.Bool.{cond}
 use borrow.Author.Needs.{needs}
 use Rattle.record.proofs.Words.{record-stored}
 use Rattle.record.proofs.put_record.Statement.{statement}

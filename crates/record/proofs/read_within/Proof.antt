@@ -1,4 +1,3 @@
-use mathlib.Core.Bool.{cond}
 use borrow.Author.Needs.{needs}
 use mathlib.Core.Path.{_∙_, sym, ap}
 use native.Mathlib.Omega.{arith}

@@ -1,23 +1,15 @@
-use Prim.Native.Nat.{_≤_, _<_, _-_}
+use Prim.Native.Nat.{_≤_, _<_}
 use mathlib.Core.Path.{_≡_}
-use mathlib.Core.Bool.{true, _&&_}
+use mathlib.Core.Bool.{true}
 use native.Mathlib.Omega.{arith}
-use lib.Dec.{eqb}
-use lib.ListN.{getD}
 use borrow.Author.Tests.{lt-ltb, le-ltb, eq-eqb, ne-eqb}
-use Rattle.handlers.specs.Machines.{soundOf, uppermost}
+use Rattle.handlers.specs.Machines.{soundOf}
 use Rattle.handlers.specs.Service.{chainOf}
 use Rattle.handlers.proofs.Facts.{facts}
 use Rattle.handlers.proofs.Answers.{unsound-stack, sound-stack, capture-unsound, capture-sound}
 use borrow.Author.Needs.{needs}
 use Rattle.handlers.proofs.Machine.chain.Statement.{statement}
 use Rattle.handlers.proofs.Machine.chain.Tie as tie
-use Rattle.handlers.proofs.Machine.chain.Reads as reads
-use Rattle.handlers.proofs.Machine.chain.Lts as lts
-use Rattle.handlers.proofs.Machine.stack_sound.Reads as stack-sound-reads
-use Rattle.handlers.proofs.sound.accept.Reads as accept-reads
-use Rattle.handlers.proofs.sound.refuse.Reads as refuse-reads
-use Rattle.pic.proofs.Controller.capture.Reads as capture-reads
 
 -- Past question 8 the machine is sound.
 sound-here : (c : tie.Else2) → soundOf (c .before .before .before .before .before .before .args .t1) ≡ true
@@ -30,90 +22,70 @@ few c = facts _ (sound-here (c .before)) .stack .few
 some : (c : tie.Else3) → 0 < c .before .before .before .before .before .before .before .args .t1 .depth
 some c = omega (arith, c .if3 .left)
 
--- src/service.rt:85:13
 stack-sound-requires : tie.Need-stack-sound-requires
 stack-sound-requires c κs = search needs
 
--- src/service.rt:86:13
 refuse-requires : tie.Need-refuse-requires
 refuse-requires c κs = search needs
 
--- src/service.rt:86:13
 returns : tie.Need-returns
 unfolding chainOf
 returns c = rw (unsound-stack _ (c .before .before .stack-sound .ensures) (c .before .if1 .taken)) (c .refuse .ensures)
 
--- src/service.rt:89:13
 capture-requires : tie.Need-capture-requires
 capture-requires c κs = search needs
 
--- src/service.rt:91:13
 refuse-requires-2 : tie.Need-refuse-requires-2
 refuse-requires-2 c κs = search needs
 
--- src/service.rt:91:13
 returns-2 : tie.Need-returns-2
 unfolding chainOf
 returns-2 c =
     rw (capture-unsound _ (c .before .before .before .capture .ensures) (sound-stack _ (c .before .before .before .before .before .before .stack-sound .ensures) (c .before .before .before .before .before .if1 .left)) (c .before .if2 .taken)) (c .refuse2 .ensures)
 
--- src/service.rt:95:13
 refuse-requires-3 : tie.Need-refuse-requires-3
 refuse-requires-3 c κs = search needs
 
--- src/service.rt:95:13
 returns-3 : tie.Need-returns-3
 unfolding chainOf
 returns-3 c = rw (sound-here (c .before .before), le-ltb 0 (c .before .before .before .before .before .before .before .before .args .t1 .depth) (omega (arith, c .before .if3 .taken))) (c .refuse3 .ensures)
 
--- src/service.rt:98:13
 refuse-requires-4 : tie.Need-refuse-requires-4
 refuse-requires-4 c κs = search needs
 
--- src/service.rt:98:13
 returns-4 : tie.Need-returns-4
 unfolding chainOf
 returns-4 c = rw (sound-here (c .before .before .before), lt-ltb 0 _ (some (c .before .before)), ne-eqb _ _ (c .before .if4 .taken)) (c .refuse4 .ensures)
 
--- src/service.rt:100:32
 sub-h : tie.Need-sub-h
 sub-h c = search needs
 
--- src/service.rt:100:21
 mul-h : tie.Need-mul-h
 mul-h c = let b = few (c .before) in record { fits = omega (arith, b) }
 
--- src/service.rt:100:21
 element-copy-out-h : tie.Need-element-copy-out-h
 element-copy-out-h c = omega (arith, few (c .before), some (c .before))
 
--- src/service.rt:106:24
 sub-h-2 : tie.Need-sub-h-2
 sub-h-2 c = search needs
 
--- src/service.rt:106:13
 mul-h-2 : tie.Need-mul-h-2
 mul-h-2 c = let b = few (c .before .before .before .before .before .before .before .before) in record { fits = omega (arith, b) }
 
--- src/service.rt:106:13
 element-set-from-h : tie.Need-element-set-from-h
 element-set-from-h c = omega (arith, few (c .before .before .before .before .before .before .before .before), some (c .before .before .before .before .before .before .before .before))
 
--- src/service.rt:107:13
 accept-requires : tie.Need-accept-requires
 accept-requires c κs = search needs
 
--- src/service.rt:107:13
 returns-5 : tie.Need-returns-5
 unfolding chainOf
 returns-5 c =
     rw (sound-here (c .before .before .before .before .before .before .before .before .before .before), lt-ltb 0 _ (some (c .before .before .before .before .before .before .before .before .before)), eq-eqb _ _ (c .before .before .before .before .before .before .before .before .if4 .left), ← c .before .before .before .before .before .before .before .before .before .before .before .before .capture .ensures, c .before .if5 .taken) (c .accept .ensures)
 
--- src/service.rt:109:9
 accept-requires-2 : tie.Need-accept-requires-2
 accept-requires-2 c κs = search needs
 
--- src/service.rt:82:5
 returns-6 : tie.Need-returns-6
 unfolding chainOf
 returns-6 c =

@@ -4,35 +4,23 @@ use Rattle.handlers.proofs.Answers.{unsound-stack, sound-stack, lift-an
 use borrow.Author.Needs.{needs}
 use Rattle.handlers.proofs.Machine.csr_read.Statement.{statement}
 use Rattle.handlers.proofs.Machine.csr_read.Tie as tie
-use Rattle.handlers.proofs.Machine.csr_read.Reads as reads
-use Rattle.handlers.proofs.Machine.csr_read.Lts as lts
-use Rattle.handlers.proofs.Machine.stack_sound.Reads as stack-sound-reads
-use Rattle.handlers.proofs.registers.lift.Reads as lift-reads
-use Rattle.handlers.proofs.sound.refuse.Reads as refuse-reads
-use Rattle.pic.proofs.Controller.csr_read.Reads as csr-read-reads
 
--- src/registers.rt:61:13
 stack-sound-requires : tie.Need-stack-sound-requires
 stack-sound-requires c κs = search needs
 
--- src/registers.rt:62:13
 refuse-requires : tie.Need-refuse-requires
 refuse-requires c κs = search needs
 
--- src/registers.rt:62:13
 returns : tie.Need-returns
 unfolding csrReadOf
 returns c = rw (unsound-stack _ (c .before .before .stack-sound .ensures) (c .before .if1 .taken)) (c .refuse .ensures)
 
--- src/registers.rt:65:20
 csr-read-requires : tie.Need-csr-read-requires
 csr-read-requires c κs = search needs
 
--- src/registers.rt:65:9
 lift-requires : tie.Need-lift-requires
 lift-requires c κs = search needs
 
--- src/registers.rt:58:5
 returns-2 : tie.Need-returns-2
 unfolding csrReadOf
 returns-2 c =

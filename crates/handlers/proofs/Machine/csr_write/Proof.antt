@@ -1,65 +1,45 @@
-use borrow.Author.Tests.{not-true, not-false}
-use mathlib.Core.Path.{sym, _∙_}
 use Rattle.handlers.specs.Service.{csrWriteOf}
 use Rattle.pic.proofs.Kept.{csr-write-8}
 use Rattle.handlers.proofs.Answers.{unsound-stack, sound-stack, lift-answer, may-write}
 use borrow.Author.Needs.{needs}
 use Rattle.handlers.proofs.Machine.csr_write.Statement.{statement}
 use Rattle.handlers.proofs.Machine.csr_write.Tie as tie
-use Rattle.handlers.proofs.Machine.csr_write.Reads as reads
-use Rattle.handlers.proofs.Machine.csr_write.Lts as lts
-use Rattle.handlers.proofs.Machine.stack_sound.Reads as stack-sound-reads
-use Rattle.handlers.proofs.registers.lift.Reads as lift-reads
-use Rattle.handlers.proofs.sound.refuse.Reads as refuse-reads
-use Rattle.pic.proofs.Controller.csr_write.Reads as csr-write-reads
-use Rattle.pic.proofs.Controller.is_sound.Reads as is-sound-reads
 
--- src/registers.rt:72:13
 stack-sound-requires : tie.Need-stack-sound-requires
 stack-sound-requires c κs = search needs
 
--- src/registers.rt:73:13
 refuse-requires : tie.Need-refuse-requires
 refuse-requires c κs = search needs
 
--- src/registers.rt:73:13
 returns : tie.Need-returns
 unfolding csrWriteOf
 returns c = rw (unsound-stack _ (c .before .before .stack-sound .ensures) (c .before .if1 .taken)) (c .refuse .ensures)
 
--- src/registers.rt:77:16
 is-sound-requires : tie.Need-is-sound-requires
 is-sound-requires c κs = search needs
 
--- src/registers.rt:78:17
 refuse-requires-2 : tie.Need-refuse-requires-2
 refuse-requires-2 c κs = search needs
 
--- src/registers.rt:78:17
 returns-2 : tie.Need-returns-2
 unfolding csrWriteOf
 returns-2 c =
     rw (sound-stack _ (c .before .before .before .before .before .before .before .stack-sound .ensures) (c .before .before .before .before .before .before .if1 .left), ← c .before .before .is-sound .ensures, c .before .if3 .taken, may-write _ _ (c .before .before .before .if2 .taken)) (c .refuse2 .ensures)
 
--- src/registers.rt:80:13
 refuse-requires-3 : tie.Need-refuse-requires-3
 refuse-requires-3 c κs = search needs
 
--- src/registers.rt:80:13
 returns-3 : tie.Need-returns-3
 unfolding csrWriteOf
 returns-3 c =
     rw (sound-stack _ (c .before .before .before .before .before .before .before .stack-sound .ensures) (c .before .before .before .before .before .before .if1 .left), ← c .before .before .is-sound .ensures, c .before .if3 .left) (c .refuse3 .ensures)
 
--- src/registers.rt:82:20
 csr-write-requires : tie.Need-csr-write-requires
 csr-write-requires c κs = search needs
 
--- src/registers.rt:82:9
 lift-requires : tie.Need-lift-requires
 lift-requires c κs = search needs
 
--- src/registers.rt:69:5
 returns-4 : tie.Need-returns-4
 unfolding csrWriteOf
 returns-4 c =

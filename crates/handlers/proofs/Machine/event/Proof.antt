@@ -3,105 +3,73 @@ use Rattle.handlers.specs.Service.{eventOf}
 use borrow.Author.Needs.{needs}
 use Rattle.handlers.proofs.Machine.event.Statement.{statement}
 use Rattle.handlers.proofs.Machine.event.Tie as tie
-use Rattle.handlers.proofs.Machine.event.Reads as reads
-use Rattle.handlers.proofs.Machine.event.Lts as lts
-use Rattle.handlers.proofs.Machine.chain.Reads as chain-reads
-use Rattle.handlers.proofs.Machine.csr_read.Reads as csr-read-reads
-use Rattle.handlers.proofs.Machine.csr_write.Reads as csr-write-reads
-use Rattle.handlers.proofs.Machine.load.Reads as load-reads
-use Rattle.handlers.proofs.Machine.open.Reads as open-reads
-use Rattle.handlers.proofs.Machine.return_from.Reads as return-from-reads
-use Rattle.handlers.proofs.Machine.sample.Reads as sample-reads
-use Rattle.handlers.proofs.Machine.set_mask.Reads as set-mask-reads
-use Rattle.handlers.proofs.Machine.store.Reads as store-reads
-use Rattle.handlers.proofs.Machine.take.Reads as take-reads
 
--- src/steps.rt:15:18
 sample-requires : tie.Need-sample-requires
 sample-requires c κs = search needs
 
--- src/steps.rt:16:18
 load-requires : tie.Need-load-requires
 load-requires c κs = search needs
 
--- src/steps.rt:17:18
 store-requires : tie.Need-store-requires
 store-requires c κs = search needs
 
--- src/steps.rt:18:18
 csr-read-requires : tie.Need-csr-read-requires
 csr-read-requires c κs = search needs
 
--- src/steps.rt:19:18
 csr-write-requires : tie.Need-csr-write-requires
 csr-write-requires c κs = search needs
 
--- src/steps.rt:20:18
 take-requires : tie.Need-take-requires
 take-requires c κs = search needs
 
--- src/steps.rt:21:18
 open-requires : tie.Need-open-requires
 open-requires c κs = search needs
 
--- src/steps.rt:22:18
 chain-requires : tie.Need-chain-requires
 chain-requires c κs = search needs
 
--- src/steps.rt:23:18
 return-from-requires : tie.Need-return-from-requires
 return-from-requires c κs = search needs
 
--- src/steps.rt:24:18
 set-mask-requires : tie.Need-set-mask-requires
 set-mask-requires c κs = search needs
 
--- src/steps.rt:11:5
 returns : tie.Need-returns
 unfolding eventOf
 returns c = rw (c .before .match .keys1) (c .sample .ensures)
 
--- src/steps.rt:11:5
 returns-2 : tie.Need-returns-2
 unfolding eventOf
 returns-2 c = rw (c .before .match .keys2) (c .load .ensures)
 
--- src/steps.rt:11:5
 returns-3 : tie.Need-returns-3
 unfolding eventOf
 returns-3 c = rw (c .before .match .keys3) (c .store .ensures)
 
--- src/steps.rt:11:5
 returns-4 : tie.Need-returns-4
 unfolding eventOf
 returns-4 c = rw (c .before .match .keys4) (c .csr-read .ensures)
 
--- src/steps.rt:11:5
 returns-5 : tie.Need-returns-5
 unfolding eventOf
 returns-5 c = rw (c .before .match .keys5) (c .csr-write .ensures)
 
--- src/steps.rt:11:5
 returns-6 : tie.Need-returns-6
 unfolding eventOf
 returns-6 c = rw (c .before .match .keys6) (c .take .ensures)
 
--- src/steps.rt:11:5
 returns-7 : tie.Need-returns-7
 unfolding eventOf
 returns-7 c = rw (c .before .match .keys7) (c .«open» .ensures)
 
--- src/steps.rt:11:5
 returns-8 : tie.Need-returns-8
 unfolding eventOf
 returns-8 c = rw (c .before .match .keys8) (c .chain .ensures)
 
--- src/steps.rt:11:5
 returns-9 : tie.Need-returns-9
 unfolding eventOf
 returns-9 c = rw (c .before .match .keys9) (c .return-from .ensures)
 
--- src/steps.rt:11:5
 returns-10 : tie.Need-returns-10
 unfolding eventOf
 returns-10 c =

@@ -6,9 +6,6 @@ use Rattle.handlers.proofs.Stacks.{handlers-turn, below-turn}
 use borrow.Author.Needs.{needs}
 use Rattle.handlers.proofs.Machine.handlers_sound.Statement.{statement}
 use Rattle.handlers.proofs.Machine.handlers_sound.Tie as tie
-use Rattle.handlers.proofs.Machine.handlers_sound.Reads as reads
-use Rattle.handlers.proofs.Machine.handlers_sound.Lts as lts
-use Rattle.handlers.proofs.sound.handler_sound.Reads as handler-sound-reads
 
 abbrev Inv-loop : tie.InvT-loop
 Inv-loop self n d ok₀ below₀ k₀ ok below k = (d ≤ 15) × (k ≤ d) × (ok ≡ handlersSound n d (self .stack) k) × (below ≡ belowOf (self .stack) k)
@@ -16,42 +13,33 @@ Inv-loop self n d ok₀ below₀ k₀ ok below k = (d ≤ 15) × (k ≤ d) × (o
 abbrev μ-loop : tie.MeasureT-loop
 μ-loop self n d ok₀ below₀ k₀ ok below k = d - k
 
--- src/sound.rt:109:9
 loop-holds : tie.Need-loop-holds Inv-loop μ-loop
 unfolding handlersSound belowOf
 loop-holds c = search needs
 
--- src/sound.rt:110:21
 mul-h : tie.Need-mul-h Inv-loop μ-loop
 mul-h c = search needs
 
--- src/sound.rt:110:21
 element-copy-out-h : tie.Need-element-copy-out-h Inv-loop μ-loop
 element-copy-out-h c = search needs
 
--- src/sound.rt:111:41
 add-handler-sound : tie.Need-add-handler-sound Inv-loop μ-loop
 add-handler-sound c = search needs
 
--- src/sound.rt:111:17
 handler-sound-requires : tie.Need-handler-sound-requires Inv-loop μ-loop
 handler-sound-requires c κs = search needs
 
--- src/sound.rt:114:13
 add-k : tie.Need-add-k Inv-loop μ-loop
 add-k c = search needs
 
--- src/sound.rt:109:9
 loop-less : tie.Need-loop-less Inv-loop μ-loop
 loop-less c = search needs
 
--- src/sound.rt:109:9
 loop-again : tie.Need-loop-again Inv-loop μ-loop
 loop-again c =
     let l = c .before .before .before .loop .inv in
     (search needs, search needs, handlers-turn _ _ _ _ (l .2) (l .3) (c .handler-sound .ensures), below-turn 0 0 _ _)
 
--- src/sound.rt:100:5
 returns : tie.Need-returns Inv-loop μ-loop
 returns c = let e : c .before .loop .k ≡ c .before .before .args .t1 .depth = omega arith in rw e at (c .before .loop .inv .2)
 

@@ -2,20 +2,13 @@ use Rattle.handlers.specs.Machines.{soundOf}
 use borrow.Author.Needs.{needs}
 use Rattle.handlers.proofs.Machine.is_sound.Statement.{statement}
 use Rattle.handlers.proofs.Machine.is_sound.Tie as tie
-use Rattle.handlers.proofs.Machine.is_sound.Reads as reads
-use Rattle.handlers.proofs.Machine.is_sound.Lts as lts
-use Rattle.handlers.proofs.Machine.stack_sound.Reads as stack-sound-reads
-use Rattle.pic.proofs.Controller.is_sound.Reads as is-sound-reads
 
--- src/sound.rt:140:9
 stack-sound-requires : tie.Need-stack-sound-requires
 stack-sound-requires c κs = search needs
 
--- src/sound.rt:140:30
 is-sound-requires : tie.Need-is-sound-requires
 is-sound-requires c κs = search needs
 
--- src/sound.rt:136:5
 returns : tie.Need-returns
 unfolding soundOf
 returns c = rw (c .is-sound .ensures, c .before .stack-sound .ensures)

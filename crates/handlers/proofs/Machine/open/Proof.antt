@@ -10,12 +10,6 @@ use Rattle.handlers.specs.Service.{openOf}
 use borrow.Author.Needs.{needs}
 use Rattle.handlers.proofs.Machine.open.Statement.{statement}
 use Rattle.handlers.proofs.Machine.open.Tie as tie
-use Rattle.handlers.proofs.Machine.open.Reads as reads
-use Rattle.handlers.proofs.Machine.open.Lts as lts
-use Rattle.handlers.proofs.Machine.is_sound.Reads as is-sound-reads
-use Rattle.handlers.proofs.sound.accept.Reads as accept-reads
-use Rattle.handlers.proofs.sound.refuse.Reads as refuse-reads
-use Rattle.pic.proofs.Controller.with_current.Reads as with-current-reads
 
 -- Past question 8 the machine is sound.
 sound-here : (c : tie.Else1) → soundOf (c .before .before .args .t1) ≡ true
@@ -27,74 +21,57 @@ few c = facts _ (sound-here (c .before)) .stack .few
 some : (c : tie.Else2) → 0 < c .before .before .before .args .t1 .depth
 some c = omega (arith, c .if2 .left)
 
--- src/service.rt:51:13
 is-sound-requires : tie.Need-is-sound-requires
 is-sound-requires c κs = search needs
 
--- src/service.rt:52:13
 refuse-requires : tie.Need-refuse-requires
 refuse-requires c κs = search needs
 
--- src/service.rt:52:13
 returns : tie.Need-returns
 unfolding openOf
 returns c = rw (unsound _ (c .before .before .is-sound .ensures) (c .before .if1 .taken)) (c .refuse .ensures)
 
--- src/service.rt:56:13
 refuse-requires-2 : tie.Need-refuse-requires-2
 refuse-requires-2 c κs = search needs
 
--- src/service.rt:56:13
 returns-2 : tie.Need-returns-2
 unfolding openOf
 returns-2 c = rw (sound-here (c .before .before), le-ltb 0 (c .before .before .before .before .args .t1 .depth) (omega (arith, c .before .if2 .taken))) (c .refuse2 .ensures)
 
--- src/service.rt:58:32
 sub-h : tie.Need-sub-h
 sub-h c = search needs
 
--- src/service.rt:58:21
 mul-h : tie.Need-mul-h
 mul-h c = let b = few c in record { fits = omega (arith, b) }
 
--- src/service.rt:58:21
 element-copy-out-h : tie.Need-element-copy-out-h
 element-copy-out-h c = omega (arith, few c, some c)
 
--- src/service.rt:60:13
 refuse-requires-3 : tie.Need-refuse-requires-3
 refuse-requires-3 c κs = search needs
 
--- src/service.rt:60:13
 returns-3 : tie.Need-returns-3
 unfolding openOf
 returns-3 c = rw (sound-here (c .before .before .before .before .before), lt-ltb 0 _ (some (c .before .before .before .before)), ne-eqb _ _ (c .before .if3 .taken)) (c .refuse3 .ensures)
 
--- src/service.rt:64:13
 with-current-requires : tie.Need-with-current-requires
 with-current-requires c κs = search needs
 
--- src/service.rt:66:20
 sub-h-2 : tie.Need-sub-h-2
 sub-h-2 c = search needs
 
--- src/service.rt:66:9
 mul-h-2 : tie.Need-mul-h-2
 mul-h-2 c = let b = few (c .before .before .before .before .before .before) in record { fits = omega (arith, b) }
 
--- src/service.rt:66:9
 element-set-from-h : tie.Need-element-set-from-h
 element-set-from-h c = omega (arith, few (c .before .before .before .before .before .before), some (c .before .before .before .before .before .before))
 
--- src/service.rt:69:22
 cast-accept : tie.Need-cast-accept
 cast-accept c = search needs
 
--- src/service.rt:69:9
 accept-requires : tie.Need-accept-requires
 accept-requires c κs = search needs
 
--- src/service.rt:48:5
 returns-4 : tie.Need-returns-4
 unfolding openOf
 returns-4 c = rw (sound-here (c .before .before .before .before .before .before .before .before .before), lt-ltb 0 _ (some (c .before .before .before .before .before .before .before .before)), eq-eqb _ _ (c .before .before .before .before .before .if3 .left), c .accept .ensures, c .before .before .with-current .ensures)

@@ -10,12 +10,6 @@ use Rattle.handlers.specs.Service.{returnOf}
 use borrow.Author.Needs.{needs}
 use Rattle.handlers.proofs.Machine.return_from.Statement.{statement}
 use Rattle.handlers.proofs.Machine.return_from.Tie as tie
-use Rattle.handlers.proofs.Machine.return_from.Reads as reads
-use Rattle.handlers.proofs.Machine.return_from.Lts as lts
-use Rattle.handlers.proofs.Machine.is_sound.Reads as is-sound-reads
-use Rattle.handlers.proofs.sound.accept.Reads as accept-reads
-use Rattle.handlers.proofs.sound.refuse.Reads as refuse-reads
-use Rattle.pic.proofs.Controller.with_current.Reads as with-current-reads
 
 -- Past question 8 the machine is sound.
 sound-here : (c : tie.Else1) → soundOf (c .before .before .args .t1) ≡ true
@@ -27,70 +21,54 @@ few c = facts _ (sound-here (c .before)) .stack .few
 some : (c : tie.Else2) → 0 < c .before .before .before .args .t1 .depth
 some c = omega (arith, c .if2 .left)
 
--- src/service.rt:76:13
 is-sound-requires : tie.Need-is-sound-requires
 is-sound-requires c κs = search needs
 
--- src/service.rt:77:13
 refuse-requires : tie.Need-refuse-requires
 refuse-requires c κs = search needs
 
--- src/service.rt:77:13
 returns : tie.Need-returns
 unfolding returnOf
 returns c = rw (unsound _ (c .before .before .is-sound .ensures) (c .before .if1 .taken)) (c .refuse .ensures)
 
--- src/service.rt:81:13
 refuse-requires-2 : tie.Need-refuse-requires-2
 refuse-requires-2 c κs = search needs
 
--- src/service.rt:81:13
 returns-2 : tie.Need-returns-2
 unfolding returnOf
 returns-2 c = rw (sound-here (c .before .before), le-ltb 0 (c .before .before .before .before .args .t1 .depth) (omega (arith, c .before .if2 .taken))) (c .refuse2 .ensures)
 
--- src/service.rt:84:13
 refuse-requires-3 : tie.Need-refuse-requires-3
 refuse-requires-3 c κs = search needs
 
--- src/service.rt:84:13
 returns-3 : tie.Need-returns-3
 unfolding returnOf
 returns-3 c = rw (sound-here (c .before .before .before), lt-ltb 0 _ (some (c .before .before)), ne-eqb _ _ (c .before .if3 .taken)) (c .refuse3 .ensures)
 
--- src/service.rt:86:28
 sub-h : tie.Need-sub-h
 sub-h c = search needs
 
--- src/service.rt:86:17
 mul-h : tie.Need-mul-h
 mul-h c = let b = few (c .before) in record { fits = omega (arith, b) }
 
--- src/service.rt:86:17
 element-copy-out-h : tie.Need-element-copy-out-h
 element-copy-out-h c = omega (arith, few (c .before), some (c .before))
 
--- src/service.rt:89:13
 with-current-requires : tie.Need-with-current-requires
 with-current-requires c κs = search needs
 
--- src/service.rt:91:22
 sub-self : tie.Need-sub-self
 sub-self c = search needs
 
--- src/service.rt:93:23
 sub-accept : tie.Need-sub-accept
 sub-accept c = search needs
 
--- src/service.rt:93:22
 cast-accept : tie.Need-cast-accept
 cast-accept c = let b = few (c .before .before .before .before .before) in record { fits = omega (arith, b) }
 
--- src/service.rt:93:9
 accept-requires : tie.Need-accept-requires
 accept-requires c κs = search needs
 
--- src/service.rt:73:5
 returns-4 : tie.Need-returns-4
 unfolding returnOf
 returns-4 c = rw (sound-here (c .before .before .before .before .before .before .before), lt-ltb 0 _ (some (c .before .before .before .before .before .before)), eq-eqb _ _ (c .before .before .before .before .before .if3 .left), c .accept .ensures, c .before .with-current .ensures)

@@ -1,59 +1,40 @@
 use borrow.Author.Tests.{eq-eqb, ne-eqb}
-use mathlib.Core.Path.{sym, _∙_}
 use Rattle.handlers.specs.Service.{stepOf}
 use Rattle.handlers.proofs.Answers.{step-answer}
 use borrow.Author.Needs.{needs}
 use Rattle.handlers.proofs.Machine.step.Statement.{statement}
 use Rattle.handlers.proofs.Machine.step.Tie as tie
-use Rattle.handlers.proofs.Machine.step.Reads as reads
-use Rattle.handlers.proofs.Machine.step.Lts as lts
-use Rattle.event.proofs.address.Reads as address-reads
-use Rattle.event.proofs.kind.Reads as kind-reads
-use Rattle.event.proofs.shape.Reads as shape-reads
-use Rattle.handlers.proofs.Machine.event.Reads as event-reads
-use Rattle.handlers.proofs.Machine.is_sound.Reads as is-sound-reads
-use Rattle.handlers.proofs.sound.refuse.Reads as refuse-reads
 
--- src/steps.rt:32:13
 shape-requires : tie.Need-shape-requires
 shape-requires c κs = search needs
 
--- src/steps.rt:34:16
 is-sound-requires : tie.Need-is-sound-requires
 is-sound-requires c κs = search needs
 
--- src/steps.rt:35:17
 refuse-requires : tie.Need-refuse-requires
 refuse-requires c κs = search needs
 
--- src/steps.rt:35:17
 returns : tie.Need-returns
 unfolding stepOf
 returns c =
     rw (← c .before .before .before .before .shape .ensures, ne-eqb _ _ (c .before .before .before .if1 .taken), ← c .before .before .is-sound .ensures, c .before .if2 .taken) (c .refuse .ensures)
 
--- src/steps.rt:37:13
 refuse-requires-2 : tie.Need-refuse-requires-2
 refuse-requires-2 c κs = search needs
 
--- src/steps.rt:37:13
 returns-2 : tie.Need-returns-2
 unfolding stepOf
 returns-2 c = rw (← c .before .before .is-sound .ensures, c .before .if2 .left) (c .refuse2 .ensures)
 
--- src/steps.rt:39:20
 kind-requires : tie.Need-kind-requires
 kind-requires c κs = search needs
 
--- src/steps.rt:39:39
 address-requires : tie.Need-address-requires
 address-requires c κs = search needs
 
--- src/steps.rt:39:9
 event-requires : tie.Need-event-requires
 event-requires c κs = search needs
 
--- src/steps.rt:29:5
 returns-3 : tie.Need-returns-3
 unfolding stepOf
 returns-3 c =

@@ -15,13 +15,6 @@ use Rattle.handlers.proofs.Answers.{unsound-stack, sound-stack, capture
 use borrow.Author.Needs.{needs}
 use Rattle.handlers.proofs.Machine.take.Statement.{statement}
 use Rattle.handlers.proofs.Machine.take.Tie as tie
-use Rattle.handlers.proofs.Machine.take.Reads as reads
-use Rattle.handlers.proofs.Machine.take.Lts as lts
-use Rattle.handlers.proofs.Machine.stack_sound.Reads as stack-sound-reads
-use Rattle.handlers.proofs.service.is_above.Reads as is-above-reads
-use Rattle.handlers.proofs.sound.accept.Reads as accept-reads
-use Rattle.handlers.proofs.sound.refuse.Reads as refuse-reads
-use Rattle.pic.proofs.Controller.capture.Reads as capture-reads
 
 -- Where the margin is above 0 and the mask on: the machine is sound, and there is a place for one handler more.
 sound-here : (c : tie.Else2) → soundOf (c .before .before .before .before .before .before .args .t1) ≡ true
@@ -39,73 +32,57 @@ place c =
     one : {n : ℕ} → n ≡ 1 → n ≡ 0 → ⊥
     one e f = omega arith
 
--- src/service.rt:25:13
 stack-sound-requires : tie.Need-stack-sound-requires
 stack-sound-requires c κs = search needs
 
--- src/service.rt:26:13
 refuse-requires : tie.Need-refuse-requires
 refuse-requires c κs = search needs
 
--- src/service.rt:26:13
 returns : tie.Need-returns
 unfolding takeOf
 returns c = rw (unsound-stack _ (c .before .before .stack-sound .ensures) (c .before .if1 .taken)) (c .refuse .ensures)
 
--- src/service.rt:29:13
 capture-requires : tie.Need-capture-requires
 capture-requires c κs = search needs
 
--- src/service.rt:31:13
 refuse-requires-2 : tie.Need-refuse-requires-2
 refuse-requires-2 c κs = search needs
 
--- src/service.rt:31:13
 returns-2 : tie.Need-returns-2
 unfolding takeOf
 returns-2 c =
     rw (capture-unsound _ (c .before .before .before .capture .ensures) (sound-stack _ (c .before .before .before .before .before .before .stack-sound .ensures) (c .before .before .before .before .before .if1 .left)) (c .before .if2 .taken)) (c .refuse2 .ensures)
 
--- src/service.rt:34:13
 refuse-requires-3 : tie.Need-refuse-requires-3
 refuse-requires-3 c κs = search needs
 
--- src/service.rt:34:13
 returns-3 : tie.Need-returns-3
 unfolding takeOf
 returns-3 c = rw (sound-here (c .before .before), ne-eqb _ _ (c .before .if3 .taken)) (c .refuse3 .ensures)
 
--- src/service.rt:36:13
 is-above-requires : tie.Need-is-above-requires
 is-above-requires c κs = search needs
 
--- src/service.rt:37:13
 refuse-requires-4 : tie.Need-refuse-requires-4
 refuse-requires-4 c κs = search needs
 
--- src/service.rt:37:13
 returns-4 : tie.Need-returns-4
 unfolding takeOf
 returns-4 c =
     rw (sound-here (c .before .before .before .before .before), eq-eqb _ _ (c .before .before .before .before .if3 .left), ← c .before .before .before .before .before .before .before .capture .ensures, ← above (c .before .before), not-true (c .before .before .is-above .result) (c .before .if4 .taken)) (c .refuse4 .ensures)
 
--- src/service.rt:44:9
 mul-t19 : tie.Need-mul-t19
 mul-t19 c = let b = place (c .before .before .before .before) in record { fits = omega (arith, b) }
 
--- src/service.rt:44:9
 element-set-from-self : tie.Need-element-set-from-self
 element-set-from-self c = place (c .before .before .before .before)
 
--- src/service.rt:50:22
 add-self : tie.Need-add-self
 add-self c = let b = place (c .before .before .before .before) in record { fits = omega (arith, b) }
 
--- src/service.rt:53:9
 accept-requires : tie.Need-accept-requires
 accept-requires c κs = search needs
 
--- src/service.rt:22:5
 returns-5 : tie.Need-returns-5
 unfolding takeOf
 returns-5 c =

@@ -2,15 +2,11 @@ use borrow.Author.Tests.{eq-eqb, ne-eqb}
 use Rattle.handlers.specs.Machines.{levelOf}
 use Rattle.handlers.proofs.sound.level.Statement.{statement}
 use Rattle.handlers.proofs.sound.level.Tie as tie
-use Rattle.handlers.proofs.sound.level.Reads as reads
-use Rattle.handlers.proofs.sound.level.Lts as lts
 
--- src/sound.rt:26:1
 returns : tie.Need-returns
 unfolding levelOf
 returns c = rw (eq-eqb _ _ (c .before .if1 .taken))
 
--- src/sound.rt:26:1
 returns-2 : tie.Need-returns-2
 unfolding levelOf
 returns-2 c = rw (ne-eqb _ _ (c .before .if1 .left))

@@ -2,7 +2,7 @@ use mathlib.Core.Path.{refl}
 use mir.Facts.{toZ-ofZ}
 use mir.Syntax.{w32}
 use Rattle.pic.specs.Calls.{captureOf}
-use Rattle.pic.specs.Sources.{captured, winnerOf}
+use Rattle.pic.specs.Sources.{captured}
 use Rattle.pic.proofs.Calling.{unsound, is-sound}
 use Rattle.pic.proofs.Soundness.{facts, meihap-fits}
 use Rattle.pic.proofs.Winning.{winner-small}
@@ -10,49 +10,34 @@ use Rattle.pic.proofs.Writes.{settle-kept}
 use borrow.Author.Needs.{needs}
 use Rattle.pic.proofs.Controller.capture.Statement.{statement}
 use Rattle.pic.proofs.Controller.capture.Tie as tie
-use Rattle.pic.proofs.Controller.capture.Reads as reads
-use Rattle.pic.proofs.Controller.capture.Lts as lts
-use Rattle.pic.proofs.Controller.is_sound.Reads as is-sound-reads
-use Rattle.pic.proofs.Controller.winner.Reads as winner-reads
-use Rattle.pic.proofs.ranks.gap.Reads as gap-reads
-use Rattle.pic.proofs.ranks.higher.Reads as higher-reads
 
--- src/calls.rt:138:13
 is-sound-requires : tie.Need-is-sound-requires
 is-sound-requires c κs = search needs
 
--- src/calls.rt:139:13
 returns : tie.Need-returns
 unfolding captureOf
 returns c = rw (unsound _ (c .before .is-sound .ensures) (c .if1 .taken))
 
--- src/calls.rt:151:13
 winner-requires : tie.Need-winner-requires
 winner-requires c κs = search needs
 
--- src/calls.rt:153:29
 higher-requires : tie.Need-higher-requires
 higher-requires c κs = search needs
 
--- src/calls.rt:153:13
 gap-requires : tie.Need-gap-requires
 gap-requires c κs = search needs
 
--- src/calls.rt:155:39
 cast-meihap : tie.Need-cast-meihap
 cast-meihap c = search needs
 
--- src/calls.rt:155:34
 mul-meihap : tie.Need-mul-meihap
 mul-meihap c = search needs
 
--- src/calls.rt:155:22
 add-meihap : tie.Need-add-meihap
 add-meihap c =
     let h = facts _ (is-sound _ (c .before .before .before .before .before .before .before .before .before .is-sound .ensures) (c .before .before .before .before .before .before .before .before .if1 .left)) in
     record { fits = rw (c .before .before .before .before .before .before .before .winner .ensures) (meihap-fits _ h _ (winner-small _ h .0)) }
 
--- src/calls.rt:135:5
 returns-2 : tie.Need-returns-2
 unfolding captureOf
 returns-2 c =

@@ -1,59 +1,40 @@
-use mathlib.Core.Path.{sym, _∙_}
 use borrow.Author.Tests.{not-true, not-false}
 use Rattle.pic.specs.Calls.{csrReadOf}
 use Rattle.pic.proofs.Calling.{unsound, is-sound, settled}
 use borrow.Author.Needs.{needs}
 use Rattle.pic.proofs.Controller.csr_read.Statement.{statement}
 use Rattle.pic.proofs.Controller.csr_read.Tie as tie
-use Rattle.pic.proofs.Controller.csr_read.Reads as reads
-use Rattle.pic.proofs.Controller.csr_read.Lts as lts
-use Rattle.pic.proofs.Controller.csr_value.Reads as csr-value-reads
-use Rattle.pic.proofs.Controller.is_sound.Reads as is-sound-reads
-use Rattle.pic.proofs.calls.accept.Reads as accept-reads
-use Rattle.pic.proofs.calls.refuse.Reads as refuse-reads
-use Rattle.pic.proofs.csrs.csr_at.Reads as csr-at-reads
-use Rattle.pic.proofs.csrs.is_csr.Reads as is-csr-reads
 
--- src/calls.rt:89:13
 is-sound-requires : tie.Need-is-sound-requires
 is-sound-requires c κs = search needs
 
--- src/calls.rt:90:13
 refuse-requires : tie.Need-refuse-requires
 refuse-requires c κs = search needs
 
--- src/calls.rt:90:13
 returns : tie.Need-returns
 unfolding csrReadOf
 returns c = rw (unsound _ (c .before .before .is-sound .ensures) (c .before .if1 .taken)) (c .refuse .ensures)
 
--- src/calls.rt:92:13
 csr-at-requires : tie.Need-csr-at-requires
 csr-at-requires c κs = search needs
 
--- src/calls.rt:93:13
 is-csr-requires : tie.Need-is-csr-requires
 is-csr-requires c κs = search needs
 
--- src/calls.rt:94:13
 refuse-requires-2 : tie.Need-refuse-requires-2
 refuse-requires-2 c κs = search needs
 
--- src/calls.rt:94:13
 returns-2 : tie.Need-returns-2
 unfolding csrReadOf
 returns-2 c =
     rw (is-sound _ (c .before .before .before .before .before .is-sound .ensures) (c .before .before .before .before .if1 .left), ← c .before .before .before .csr-at .ensures, ← c .before .before .is-csr .ensures, not-true (c .before .before .is-csr .result) (c .before .if2 .taken)) (c .refuse2 .ensures)
 
--- src/calls.rt:96:13
 csr-value-requires : tie.Need-csr-value-requires
 csr-value-requires c κs = is-sound _ (c .before .before .before .before .is-sound .ensures) (c .before .before .before .if1 .left)
 
--- src/calls.rt:97:9
 accept-requires : tie.Need-accept-requires
 accept-requires c κs = search needs
 
--- src/calls.rt:86:5
 returns-3 : tie.Need-returns-3
 unfolding csrReadOf
 returns-3 c =

@@ -3,107 +3,81 @@ use Rattle.pic.proofs.Soundness.{facts, meihap-fits}
 use borrow.Author.Needs.{needs}
 use Rattle.pic.proofs.Controller.csr_value.Statement.{statement}
 use Rattle.pic.proofs.Controller.csr_value.Tie as tie
-use Rattle.pic.proofs.Controller.csr_value.Reads as reads
-use Rattle.pic.proofs.Controller.csr_value.Lts as lts
-use Rattle.pic.proofs.ranks.to_field.Reads as to-field-reads
 
--- src/csrs.rt:41:27
 enum-told : tie.Need-enum-told
 enum-told c = search needs
 
--- src/csrs.rt:42:27
 enum-told-2 : tie.Need-enum-told-2
 enum-told-2 c = search needs
 
--- src/csrs.rt:42:27
 to-field-requires : tie.Need-to-field-requires
 to-field-requires c κs = search needs
 
--- src/csrs.rt:42:27
 cast-result : tie.Need-cast-result
 cast-result c = search needs
 
--- src/csrs.rt:43:29
 enum-told-3 : tie.Need-enum-told-3
 enum-told-3 c = search needs
 
--- src/csrs.rt:44:30
 enum-told-4 : tie.Need-enum-told-4
 enum-told-4 c = search needs
 
--- src/csrs.rt:44:30
 to-field-requires-2 : tie.Need-to-field-requires-2
 to-field-requires-2 c κs = search needs
 
--- src/csrs.rt:44:30
 cast-result-2 : tie.Need-cast-result-2
 cast-result-2 c = search needs
 
--- src/csrs.rt:45:30
 enum-told-5 : tie.Need-enum-told-5
 enum-told-5 c = search needs
 
--- src/csrs.rt:45:30
 to-field-requires-3 : tie.Need-to-field-requires-3
 to-field-requires-3 c κs = search needs
 
--- src/csrs.rt:45:30
 cast-result-3 : tie.Need-cast-result-3
 cast-result-3 c = search needs
 
--- src/csrs.rt:46:45
 enum-told-6 : tie.Need-enum-told-6
 enum-told-6 c = search needs
 
--- src/csrs.rt:46:45
 cast-result-4 : tie.Need-cast-result-4
 cast-result-4 c = search needs
 
--- src/csrs.rt:46:40
 mul-result : tie.Need-mul-result
 mul-result c = search needs
 
--- src/csrs.rt:46:28
 add-result : tie.Need-add-result
 add-result c =
     let h = facts _ (c .before .before .before .before .pre) in
     record { fits = meihap-fits _ h _ (h .inRange .scalars .4) }
 
--- src/csrs.rt:47:27
 enum-told-7 : tie.Need-enum-told-7
 enum-told-7 c = search needs
 
--- src/csrs.rt:36:5
 returns : tie.Need-returns
 unfolding csrValue
 returns c = rw (c .enum-told .given .1)
 
--- src/csrs.rt:36:5
 returns-2 : tie.Need-returns-2
 unfolding csrValue
 returns-2 c = rw (c .before .before .enum-told2 .given .1, c .before .to-field .ensures)
 
--- src/csrs.rt:36:5
 returns-3 : tie.Need-returns-3
 unfolding csrValue
 returns-3 c = rw (c .enum-told3 .given .1)
 
--- src/csrs.rt:36:5
 returns-4 : tie.Need-returns-4
 unfolding csrValue
 returns-4 c = rw (c .before .before .enum-told4 .given .1, c .before .to-field2 .ensures)
 
--- src/csrs.rt:36:5
 returns-5 : tie.Need-returns-5
 unfolding csrValue
 returns-5 c = rw (c .before .before .enum-told5 .given .1, c .before .to-field3 .ensures)
 
--- src/csrs.rt:36:5
 returns-6 : tie.Need-returns-6
 unfolding csrValue
 returns-6 c = rw (c .before .before .enum-told6 .given .1)
 
--- src/csrs.rt:36:5
 returns-7 : tie.Need-returns-7
 unfolding csrValue
 returns-7 c = rw (c .enum-told7 .given .1)

@@ -4,55 +4,37 @@ use Rattle.pic.proofs.Calling.{unsound, is-sound, register-valid, settl
 use borrow.Author.Needs.{needs}
 use Rattle.pic.proofs.Controller.load.Statement.{statement}
 use Rattle.pic.proofs.Controller.load.Tie as tie
-use Rattle.pic.proofs.Controller.load.Reads as reads
-use Rattle.pic.proofs.Controller.load.Lts as lts
-use Rattle.pic.proofs.Controller.is_sound.Reads as is-sound-reads
-use Rattle.pic.proofs.Controller.read.Reads as read-reads
-use Rattle.pic.proofs.calls.accept.Reads as accept-reads
-use Rattle.pic.proofs.calls.offset_refusal.Reads as offset-refusal-reads
-use Rattle.pic.proofs.calls.refuse.Reads as refuse-reads
-use Rattle.pic.proofs.registers.register_at.Reads as register-at-reads
 
--- src/calls.rt:68:13
 is-sound-requires : tie.Need-is-sound-requires
 is-sound-requires c κs = search needs
 
--- src/calls.rt:69:13
 refuse-requires : tie.Need-refuse-requires
 refuse-requires c κs = search needs
 
--- src/calls.rt:69:13
 returns : tie.Need-returns
 unfolding loadOf
 returns c = rw (unsound _ (c .before .before .is-sound .ensures) (c .before .if1 .taken)) (c .refuse .ensures)
 
--- src/calls.rt:71:13
 offset-refusal-requires : tie.Need-offset-refusal-requires
 offset-refusal-requires c κs = search needs
 
--- src/calls.rt:73:13
 refuse-requires-2 : tie.Need-refuse-requires-2
 refuse-requires-2 c κs = search needs
 
--- src/calls.rt:73:13
 returns-2 : tie.Need-returns-2
 unfolding loadOf
 returns-2 c =
     rw (is-sound _ (c .before .before .before .before .is-sound .ensures) (c .before .before .before .if1 .left), ← c .before .before .offset-refusal .ensures, ne-eqb _ _ (c .before .if2 .taken)) (c .refuse2 .ensures)
 
--- src/calls.rt:75:27
 register-at-requires : tie.Need-register-at-requires
 register-at-requires c κs = search needs
 
--- src/calls.rt:75:13
 read-requires : tie.Need-read-requires
 read-requires c κs = rw (c .register-at .ensures) (register-valid _ _)
 
--- src/calls.rt:76:9
 accept-requires : tie.Need-accept-requires
 accept-requires c κs = search needs
 
--- src/calls.rt:65:5
 returns-3 : tie.Need-returns-3
 unfolding loadOf
 returns-3 c =

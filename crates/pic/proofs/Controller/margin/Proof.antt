@@ -5,35 +5,23 @@ use Rattle.pic.proofs.Calling.{unsound, is-sound}
 use borrow.Author.Needs.{needs}
 use Rattle.pic.proofs.Controller.margin.Statement.{statement}
 use Rattle.pic.proofs.Controller.margin.Tie as tie
-use Rattle.pic.proofs.Controller.margin.Reads as reads
-use Rattle.pic.proofs.Controller.margin.Lts as lts
-use Rattle.pic.proofs.Controller.is_sound.Reads as is-sound-reads
-use Rattle.pic.proofs.Controller.winner.Reads as winner-reads
-use Rattle.pic.proofs.ranks.gap.Reads as gap-reads
-use Rattle.pic.proofs.ranks.higher.Reads as higher-reads
 
--- src/calls.rt:121:13
 is-sound-requires : tie.Need-is-sound-requires
 is-sound-requires c κs = search needs
 
--- src/calls.rt:122:13
 returns : tie.Need-returns
 unfolding marginAnswer
 returns c = rw (unsound _ (c .before .is-sound .ensures) (c .if1 .taken))
 
--- src/calls.rt:127:13
 winner-requires : tie.Need-winner-requires
 winner-requires c κs = search needs
 
--- src/calls.rt:129:33
 higher-requires : tie.Need-higher-requires
 higher-requires c κs = search needs
 
--- src/calls.rt:129:21
 gap-requires : tie.Need-gap-requires
 gap-requires c κs = search needs
 
--- src/calls.rt:118:5
 returns-2 : tie.Need-returns-2
 unfolding marginAnswer
 returns-2 c =

@@ -1,4 +1,3 @@
-use mathlib.Core.Bool.{_&&_}
 use Prim.Native.Nat.{_≤_, _<_, _-_, _^_}
 use mathlib.Core.Path.{_≡_}
 use native.Mathlib.Omega.{arith}
@@ -7,11 +6,6 @@ use Rattle.pic.proofs.Turns.{pending-turn, join-lt}
 use borrow.Author.Needs.{needs}
 use Rattle.pic.proofs.Controller.pending_word.Statement.{statement}
 use Rattle.pic.proofs.Controller.pending_word.Tie as tie
-use Rattle.pic.proofs.Controller.pending_word.Reads as reads
-use Rattle.pic.proofs.Controller.pending_word.Lts as lts
-use Rattle.pic.proofs.samples.join.Reads as join-reads
-use Rattle.pic.proofs.sources.is_source.Reads as is-source-reads
-use Rattle.pic.proofs.sources.pending.Reads as pending-reads
 
 abbrev Inv-loop : tie.InvT-loop
 Inv-loop x self n w₀ y₀ w y = (n ≡ self .sources) × (y ≤ 32) × (w ≡ pendingTo self x y) × (w < 2 ^ y)
@@ -19,64 +13,49 @@ Inv-loop x self n w₀ y₀ w y = (n ≡ self .sources) × (y ≤ 32) × (w ≡ 
 abbrev μ-loop : tie.MeasureT-loop
 μ-loop x self n w₀ y₀ w y = 32 - y
 
--- src/samples.rt:58:9
 loop-holds : tie.Need-loop-holds Inv-loop μ-loop
 unfolding pendingTo
 loop-holds c = search needs
 
--- src/samples.rt:59:21
 mul-s : tie.Need-mul-s Inv-loop μ-loop
 mul-s c = search needs
 
--- src/samples.rt:59:31
 cast-s : tie.Need-cast-s Inv-loop μ-loop
 cast-s c = search needs
 
--- src/samples.rt:59:21
 add-s : tie.Need-add-s Inv-loop μ-loop
 add-s c = search needs
 
--- src/samples.rt:61:17
 element-copy-out-pending : tie.Need-element-copy-out-pending Inv-loop μ-loop
 element-copy-out-pending c = search needs
 
--- src/samples.rt:62:17
 element-copy-out-pending-2 : tie.Need-element-copy-out-pending-2 Inv-loop μ-loop
 element-copy-out-pending-2 c = search needs
 
--- src/samples.rt:63:17
 element-copy-out-pending-3 : tie.Need-element-copy-out-pending-3 Inv-loop μ-loop
 element-copy-out-pending-3 c = search needs
 
--- src/samples.rt:64:17
 element-copy-out-pending-4 : tie.Need-element-copy-out-pending-4 Inv-loop μ-loop
 element-copy-out-pending-4 c = search needs
 
--- src/samples.rt:60:17
 pending-requires : tie.Need-pending-requires Inv-loop μ-loop
 pending-requires c κs = search needs
 
--- src/samples.rt:66:35
 cast-is-source : tie.Need-cast-is-source Inv-loop μ-loop
 cast-is-source c = search needs
 
--- src/samples.rt:66:22
 is-source-requires : tie.Need-is-source-requires Inv-loop μ-loop
 is-source-requires c κs = search needs
 
--- src/samples.rt:67:13
 join-requires : tie.Need-join-requires Inv-loop μ-loop
 join-requires c κs = search needs
 
--- src/samples.rt:68:13
 add-y : tie.Need-add-y Inv-loop μ-loop
 add-y c = search needs
 
--- src/samples.rt:58:9
 loop-less : tie.Need-loop-less Inv-loop μ-loop
 loop-less c = search needs
 
--- src/samples.rt:58:9
 loop-again : tie.Need-loop-again Inv-loop μ-loop
 loop-again c = (
   search needs,
@@ -85,7 +64,6 @@ loop-again c = (
   rw (c .join .ensures) (join-lt _ _ _ (c .before .before .before .before .before .before .before .before .loop .inv .3)),
 )
 
--- src/samples.rt:51:5
 returns : tie.Need-returns Inv-loop μ-loop
 returns c = let e : c .before .loop .y ≡ 32 = omega arith in rw e at (c .before .loop .inv .2)
 

@@ -1,37 +1,28 @@
-use mathlib.Core.Path.{ap}
 use native.Mathlib.Omega.{arith}
-use Rattle.pic.specs.Calls.{powerOnOf, handed}
+use Rattle.pic.specs.Calls.{powerOnOf}
 use Rattle.pic.proofs.Bools.{and-parts}
 use borrow.Author.Tests.{leb-true}
 use lib.Dec.{leb}
 use borrow.Author.Needs.{needs}
 use Rattle.pic.proofs.Controller.power_on.Statement.{statement}
 use Rattle.pic.proofs.Controller.power_on.Tie as tie
-use Rattle.pic.proofs.Controller.power_on.Reads as reads
-use Rattle.pic.proofs.Controller.power_on.Lts as lts
-use Rattle.pic.proofs.sound.with_sources.Reads as with-sources-reads
 
--- src/sound.rt:50:42
 cast-with-sources : tie.Need-cast-with-sources
 cast-with-sources c =
     let p = and-parts (leb 2 (c .before .args .n)) (leb (c .before .args .n) 255) (c .if1 .taken) in
     let q = leb-true (c .before .args .n) 255 (p .1) in
     record { fits = omega arith }
 
--- src/sound.rt:50:29
 with-sources-requires : tie.Need-with-sources-requires
 with-sources-requires c κs = search needs
 
--- src/sound.rt:56:29
 with-sources-requires-2 : tie.Need-with-sources-requires-2
 with-sources-requires-2 c κs = search needs
 
--- src/sound.rt:45:5
 returns : tie.Need-returns
 unfolding powerOnOf
 returns c = rw (c .before .if1 .taken, c .with-sources .ensures)
 
--- src/sound.rt:45:5
 returns-2 : tie.Need-returns-2
 unfolding powerOnOf
 returns-2 c = rw (c .before .if1 .left, c .with-sources2 .ensures)

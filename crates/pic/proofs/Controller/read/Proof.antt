@@ -1,129 +1,96 @@
 use borrow.Author.Tests.{ltb-true}
-use Rattle.pic.specs.Registers.{readOf, isRegister}
+use Rattle.pic.specs.Registers.{readOf}
 use borrow.Author.Needs.{needs}
 use Rattle.pic.proofs.Controller.read.Statement.{statement}
 use Rattle.pic.proofs.Controller.read.Tie as tie
-use Rattle.pic.proofs.Controller.read.Reads as reads
-use Rattle.pic.proofs.Controller.read.Lts as lts
-use Rattle.pic.proofs.Controller.pending_word.Reads as pending-word-reads
-use Rattle.pic.proofs.ranks.to_field.Reads as to-field-reads
-use Rattle.pic.proofs.registers.gateway_word.Reads as gateway-word-reads
 
--- src/registers.rt:69:29
 enum-known-r : tie.Need-enum-known-r
 enum-known-r c = search needs
 
--- src/registers.rt:70:25
 cast-i : tie.Need-cast-i
 cast-i c = search needs
 
--- src/registers.rt:71:52
 element-copy-out-t16 : tie.Need-element-copy-out-t16
 element-copy-out-t16 c = search needs
 
--- src/registers.rt:71:21
 to-field-requires : tie.Need-to-field-requires
 to-field-requires c κs = search needs
 
--- src/registers.rt:72:17
 cast-result : tie.Need-cast-result
 cast-result c = search needs
 
--- src/registers.rt:74:28
 enum-known-r-2 : tie.Need-enum-known-r-2
 enum-known-r-2 c = search needs
 
--- src/registers.rt:74:52
 cast-pending-word : tie.Need-cast-pending-word
 cast-pending-word c = search needs
 
--- src/registers.rt:74:34
 pending-word-requires : tie.Need-pending-word-requires
 pending-word-requires c κs = ltb-true _ 8 (rw (c .before .r2 .given .1) at (c .before .before .before .pre))
 
--- src/registers.rt:75:28
 enum-known-r-3 : tie.Need-enum-known-r-3
 enum-known-r-3 c = search needs
 
--- src/registers.rt:76:25
 cast-i-2 : tie.Need-cast-i-2
 cast-i-2 c = search needs
 
--- src/registers.rt:77:17
 element-copy-out-result : tie.Need-element-copy-out-result
 element-copy-out-result c = search needs
 
--- src/registers.rt:77:17
 cast-result-2 : tie.Need-cast-result-2
 cast-result-2 c = search needs
 
--- src/registers.rt:79:34
 enum-told : tie.Need-enum-told
 enum-told c = search needs
 
--- src/registers.rt:79:34
 cast-result-3 : tie.Need-cast-result-3
 cast-result-3 c = search needs
 
--- src/registers.rt:80:33
 enum-known-r-4 : tie.Need-enum-known-r-4
 enum-known-r-4 c = search needs
 
--- src/registers.rt:81:25
 cast-i-3 : tie.Need-cast-i-3
 cast-i-3 c = search needs
 
--- src/registers.rt:82:30
 element-copy-out-gateway-word : tie.Need-element-copy-out-gateway-word
 element-copy-out-gateway-word c = search needs
 
--- src/registers.rt:82:47
 element-copy-out-gateway-word-2 : tie.Need-element-copy-out-gateway-word-2
 element-copy-out-gateway-word-2 c = search needs
 
--- src/registers.rt:82:17
 gateway-word-requires : tie.Need-gateway-word-requires
 gateway-word-requires c κs = search needs
 
--- src/registers.rt:84:38
 enum-told-2 : tie.Need-enum-told-2
 enum-told-2 c = search needs
 
--- src/registers.rt:85:37
 enum-told-3 : tie.Need-enum-told-3
 enum-told-3 c = search needs
 
--- src/registers.rt:64:5
 returns : tie.Need-returns
 unfolding readOf
 returns c = rw (c .before .before .before .before .r .given .1, c .before .to-field .ensures)
 
--- src/registers.rt:64:5
 returns-2 : tie.Need-returns-2
 unfolding readOf
 returns-2 c = rw (c .before .before .r2 .given .1) (c .pending-word .ensures)
 
--- src/registers.rt:64:5
 returns-3 : tie.Need-returns-3
 unfolding readOf
 returns-3 c = rw (c .before .before .r3 .given .1)
 
--- src/registers.rt:64:5
 returns-4 : tie.Need-returns-4
 unfolding readOf
 returns-4 c = rw (c .enum-told .given .1)
 
--- src/registers.rt:64:5
 returns-5 : tie.Need-returns-5
 unfolding readOf
 returns-5 c = rw (c .before .before .before .before .r4 .given .1) (c .gateway-word .ensures)
 
--- src/registers.rt:64:5
 returns-6 : tie.Need-returns-6
 unfolding readOf
 returns-6 c = rw (c .enum-told2 .given .1)
 
--- src/registers.rt:64:5
 returns-7 : tie.Need-returns-7
 unfolding readOf
 returns-7 c = rw (c .enum-told3 .given .1)

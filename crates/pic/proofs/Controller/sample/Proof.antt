@@ -5,44 +5,30 @@ use Rattle.pic.proofs.Calling.{unsound, is-sound}
 use borrow.Author.Needs.{needs}
 use Rattle.pic.proofs.Controller.sample.Statement.{statement}
 use Rattle.pic.proofs.Controller.sample.Tie as tie
-use Rattle.pic.proofs.Controller.sample.Reads as reads
-use Rattle.pic.proofs.Controller.sample.Lts as lts
-use Rattle.pic.proofs.Controller.is_sound.Reads as is-sound-reads
-use Rattle.pic.proofs.Controller.take_lines.Reads as take-lines-reads
-use Rattle.pic.proofs.calls.accept.Reads as accept-reads
-use Rattle.pic.proofs.calls.refuse.Reads as refuse-reads
 
--- src/calls.rt:42:13
 is-sound-requires : tie.Need-is-sound-requires
 is-sound-requires c κs = search needs
 
--- src/calls.rt:43:13
 refuse-requires : tie.Need-refuse-requires
 refuse-requires c κs = search needs
 
--- src/calls.rt:43:13
 returns : tie.Need-returns
 unfolding sampleOf
 returns c = rw (unsound _ (c .before .before .is-sound .ensures) (c .before .if1 .taken)) (c .refuse .ensures)
 
--- src/calls.rt:46:13
 refuse-requires-2 : tie.Need-refuse-requires-2
 refuse-requires-2 c κs = search needs
 
--- src/calls.rt:46:13
 returns-2 : tie.Need-returns-2
 unfolding sampleOf
 returns-2 c = rw (is-sound _ (c .before .before .before .is-sound .ensures) (c .before .before .if1 .left), lt-leb _ _ (c .before .if2 .taken)) (c .refuse2 .ensures)
 
--- src/calls.rt:48:16
 take-lines-requires : tie.Need-take-lines-requires
 take-lines-requires c κs = (omega arith, is-sound _ (c .before .before .is-sound .ensures) (c .before .if1 .left))
 
--- src/calls.rt:48:9
 accept-requires : tie.Need-accept-requires
 accept-requires c κs = search needs
 
--- src/calls.rt:39:5
 returns-3 : tie.Need-returns-3
 unfolding sampleOf
 returns-3 c =

@@ -8,11 +8,6 @@ use Rattle.pic.proofs.Writes.{sampledTo, sample-start, sample-in, sampl
 use borrow.Author.Needs.{needs}
 use Rattle.pic.proofs.Controller.take_lines.Statement.{statement}
 use Rattle.pic.proofs.Controller.take_lines.Tie as tie
-use Rattle.pic.proofs.Controller.take_lines.Reads as reads
-use Rattle.pic.proofs.Controller.take_lines.Lts as lts
-use Rattle.pic.proofs.samples.bit.Reads as bit-reads
-use Rattle.pic.proofs.sources.is_source.Reads as is-source-reads
-use Rattle.pic.proofs.sources.latch_after.Reads as latch-after-reads
 
 abbrev Inv-loop : tie.InvT-loop
 Inv-loop x v self₀ n y₀ self y = (x < 8) × (y ≤ 32) × (e : soundOf self₀ ≡ true) × (self ≡ sampledTo self₀ (facts self₀ e) x v y)
@@ -20,63 +15,48 @@ Inv-loop x v self₀ n y₀ self y = (x < 8) × (y ≤ 32) × (e : soundOf self�
 abbrev μ-loop : tie.MeasureT-loop
 μ-loop x v self₀ n y₀ self y = 32 - y
 
--- src/samples.rt:38:9
 loop-holds : tie.Need-loop-holds Inv-loop μ-loop
 loop-holds c = (search needs, search needs, c .pre .1, sample-start _ (facts _ (c .pre .1)) _ _)
 
--- src/samples.rt:39:17
 bit-requires : tie.Need-bit-requires Inv-loop μ-loop
 bit-requires c κs = search needs
 
--- src/samples.rt:40:21
 mul-s : tie.Need-mul-s Inv-loop μ-loop
 mul-s c = search needs
 
--- src/samples.rt:40:31
 cast-s : tie.Need-cast-s Inv-loop μ-loop
 cast-s c = search needs
 
--- src/samples.rt:40:21
 add-s : tie.Need-add-s Inv-loop μ-loop
 add-s c = search needs
 
--- src/samples.rt:41:13
 add-y : tie.Need-add-y Inv-loop μ-loop
 add-y c = search needs
 
--- src/samples.rt:42:29
 cast-is-source : tie.Need-cast-is-source Inv-loop μ-loop
 cast-is-source c = search needs
 
--- src/samples.rt:42:16
 is-source-requires : tie.Need-is-source-requires Inv-loop μ-loop
 is-source-requires c κs = search needs
 
--- src/samples.rt:43:17
 element-write-self : tie.Need-element-write-self Inv-loop μ-loop
 element-write-self c = search needs
 
--- src/samples.rt:44:48
 element-copy-out-latch-after : tie.Need-element-copy-out-latch-after Inv-loop μ-loop
 element-copy-out-latch-after c = search needs
 
--- src/samples.rt:44:66
 element-copy-out-latch-after-2 : tie.Need-element-copy-out-latch-after-2 Inv-loop μ-loop
 element-copy-out-latch-after-2 c = search needs
 
--- src/samples.rt:44:33
 latch-after-requires : tie.Need-latch-after-requires Inv-loop μ-loop
 latch-after-requires c κs = search needs
 
--- src/samples.rt:44:17
 element-write-self-2 : tie.Need-element-write-self-2 Inv-loop μ-loop
 element-write-self-2 c = search needs
 
--- src/samples.rt:38:9
 loop-less : tie.Need-loop-less Inv-loop μ-loop
 loop-less c = search needs
 
--- src/samples.rt:38:9
 loop-again : tie.Need-loop-again Inv-loop μ-loop
 loop-again c =
     let l = c .before .before .before .before .before .before .before .loop .inv in (
@@ -86,17 +66,14 @@ loop-again c =
       sample-in _ (facts _ (l .2)) _ _ _ (l .3) (c .before .before .before .before .is-source .ensures) (c .before .before .before .before .before .bit .ensures) (c .before .before .before .if1 .taken) (c .latch-after .ensures),
     )
 
--- src/samples.rt:38:9
 loop-less-2 : tie.Need-loop-less-2 Inv-loop μ-loop
 loop-less-2 c = search needs
 
--- src/samples.rt:38:9
 loop-again-2 : tie.Need-loop-again-2 Inv-loop μ-loop
 loop-again-2 c =
     let l = c .before .before .before .before .loop .inv in
     (search needs, search needs, l .2, sample-out _ (facts _ (l .2)) _ _ _ (l .3) (c .before .is-source .ensures) (c .if1 .left))
 
--- src/samples.rt:32:5
 returns : tie.Need-returns Inv-loop μ-loop
 returns c =
     let l = c .before .loop .inv in

@@ -6,12 +6,6 @@ use Rattle.pic.proofs.Turns.{winner-turn}
 use borrow.Author.Needs.{needs}
 use Rattle.pic.proofs.Controller.winner.Statement.{statement}
 use Rattle.pic.proofs.Controller.winner.Tie as tie
-use Rattle.pic.proofs.Controller.winner.Reads as reads
-use Rattle.pic.proofs.Controller.winner.Lts as lts
-use Rattle.pic.proofs.sources.better.Reads as better-reads
-use Rattle.pic.proofs.sources.eligible.Reads as eligible-reads
-use Rattle.pic.proofs.sources.entry.Reads as entry-reads
-use Rattle.pic.proofs.sources.pending.Reads as pending-reads
 
 abbrev Inv-loop : tie.InvT-loop
 Inv-loop self n w₀ s₀ w s = (n < 256) × (n ≡ self .sources) × (s ≤ n) × (w ≡ winnerTo self s)
@@ -19,77 +13,59 @@ Inv-loop self n w₀ s₀ w s = (n < 256) × (n ≡ self .sources) × (s ≤ n) 
 abbrev μ-loop : tie.MeasureT-loop
 μ-loop self n w₀ s₀ w s = n - s
 
--- src/sources.rt:68:17
 cast-n : tie.Need-cast-n Inv-loop μ-loop
 cast-n c = search needs
 
--- src/sources.rt:74:9
 loop-holds : tie.Need-loop-holds Inv-loop μ-loop
 unfolding winnerTo
 loop-holds c = search needs
 
--- src/sources.rt:75:13
 add-s : tie.Need-add-s Inv-loop μ-loop
 add-s c = search needs
 
--- src/sources.rt:77:17
 element-copy-out-pending : tie.Need-element-copy-out-pending Inv-loop μ-loop
 element-copy-out-pending c = search needs
 
--- src/sources.rt:78:17
 element-copy-out-pending-2 : tie.Need-element-copy-out-pending-2 Inv-loop μ-loop
 element-copy-out-pending-2 c = search needs
 
--- src/sources.rt:79:17
 element-copy-out-pending-3 : tie.Need-element-copy-out-pending-3 Inv-loop μ-loop
 element-copy-out-pending-3 c = search needs
 
--- src/sources.rt:80:17
 element-copy-out-pending-4 : tie.Need-element-copy-out-pending-4 Inv-loop μ-loop
 element-copy-out-pending-4 c = search needs
 
--- src/sources.rt:76:17
 pending-requires : tie.Need-pending-requires Inv-loop μ-loop
 pending-requires c κs = search needs
 
--- src/sources.rt:82:31
 element-copy-out-eligible : tie.Need-element-copy-out-eligible Inv-loop μ-loop
 element-copy-out-eligible c = search needs
 
--- src/sources.rt:82:59
 element-copy-out-eligible-2 : tie.Need-element-copy-out-eligible-2 Inv-loop μ-loop
 element-copy-out-eligible-2 c = search needs
 
--- src/sources.rt:82:17
 eligible-requires : tie.Need-eligible-requires Inv-loop μ-loop
 eligible-requires c κs = search needs
 
--- src/sources.rt:83:37
 cast-entry : tie.Need-cast-entry Inv-loop μ-loop
 cast-entry c = search needs
 
--- src/sources.rt:83:46
 element-copy-out-entry : tie.Need-element-copy-out-entry Inv-loop μ-loop
 element-copy-out-entry c = search needs
 
--- src/sources.rt:83:27
 entry-requires : tie.Need-entry-requires Inv-loop μ-loop
 entry-requires c κs = search needs
 
--- src/sources.rt:83:13
 better-requires : tie.Need-better-requires Inv-loop μ-loop
 better-requires c κs = search needs
 
--- src/sources.rt:74:9
 loop-less : tie.Need-loop-less Inv-loop μ-loop
 loop-less c = search needs
 
--- src/sources.rt:74:9
 loop-again : tie.Need-loop-again Inv-loop μ-loop
 loop-again c =
     (search needs, search needs, search needs, winner-turn _ _ (c .before .before .before .before .before .before .before .before .before .before .before .before .loop .inv .3) (c .before .before .before .before .before .before .pending .ensures) (c .before .before .before .eligible .ensures) (c .before .entry .ensures) (c .better .ensures))
 
--- src/sources.rt:65:5
 returns : tie.Need-returns Inv-loop μ-loop
 returns c = let e : c .before .loop .s ≡ c .before .before .args .t1 .sources = omega arith in rw e at (c .before .loop .inv .3)
 

@@ -3,43 +3,31 @@ use Rattle.pic.specs.Registers.{writtenOf}
 use borrow.Author.Needs.{needs}
 use Rattle.pic.proofs.Controller.write_gateway.Statement.{statement}
 use Rattle.pic.proofs.Controller.write_gateway.Tie as tie
-use Rattle.pic.proofs.Controller.write_gateway.Reads as reads
-use Rattle.pic.proofs.Controller.write_gateway.Lts as lts
-use Rattle.pic.proofs.sources.latch_after.Reads as latch-after-reads
 
--- src/registers.rt:114:17
 cast-p : tie.Need-cast-p
 cast-p c = search needs
 
--- src/registers.rt:115:27
 cast-self : tie.Need-cast-self
 cast-self c = search needs
 
--- src/registers.rt:115:9
 element-write-self : tie.Need-element-write-self
 element-write-self c = search needs
 
--- src/registers.rt:116:9
 element-write-self-2 : tie.Need-element-write-self-2
 element-write-self-2 c = search needs
 
--- src/registers.rt:117:37
 element-copy-out-latch-after : tie.Need-element-copy-out-latch-after
 element-copy-out-latch-after c = search needs
 
--- src/registers.rt:117:54
 element-copy-out-latch-after-2 : tie.Need-element-copy-out-latch-after-2
 element-copy-out-latch-after-2 c = search needs
 
--- src/registers.rt:117:25
 latch-after-requires : tie.Need-latch-after-requires
 latch-after-requires c κs = search needs
 
--- src/registers.rt:117:9
 element-write-self-3 : tie.Need-element-write-self-3
 element-write-self-3 c = search needs
 
--- src/registers.rt:110:5
 returns : tie.Need-returns
 unfolding writtenOf
 returns c = gateway-stored (c .before .before .before .args .t1) (c .before .before .before .args .s) (c .before .before .before .args .v) (search needs) (c .latch-after .ensures)

@@ -2,20 +2,15 @@ use borrow.Author.Tests.{lt-ltb, le-ltb, eq-eqb, ne-eqb}
 use Rattle.pic.specs.Calls.{offsetRefusal}
 use Rattle.pic.proofs.calls.offset_refusal.Statement.{statement}
 use Rattle.pic.proofs.calls.offset_refusal.Tie as tie
-use Rattle.pic.proofs.calls.offset_refusal.Reads as reads
-use Rattle.pic.proofs.calls.offset_refusal.Lts as lts
 
--- src/calls.rt:42:9
 returns : tie.Need-returns
 unfolding offsetRefusal
 returns c = rw (le-ltb _ _ (c .if1 .taken))
 
--- src/calls.rt:45:9
 returns-2 : tie.Need-returns-2
 unfolding offsetRefusal
 returns-2 c = rw (lt-ltb _ _ (c .before .if1 .left), ne-eqb _ _ (c .if2 .taken))
 
--- src/calls.rt:38:1
 returns-3 : tie.Need-returns-3
 unfolding offsetRefusal
 returns-3 c = rw (lt-ltb _ _ (c .before .if1 .left), eq-eqb _ _ (c .if2 .left))

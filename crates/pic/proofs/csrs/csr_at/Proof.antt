@@ -2,40 +2,31 @@ use borrow.Author.Tests.{ne-eqb}
 use Rattle.pic.specs.Registers.{csrAt}
 use Rattle.pic.proofs.csrs.csr_at.Statement.{statement}
 use Rattle.pic.proofs.csrs.csr_at.Tie as tie
-use Rattle.pic.proofs.csrs.csr_at.Reads as reads
-use Rattle.pic.proofs.csrs.csr_at.Lts as lts
 
--- src/csrs.rt:14:1
 returns : tie.Need-returns
 unfolding csrAt
 returns c = rw (c .match .keys1)
 
--- src/csrs.rt:14:1
 returns-2 : tie.Need-returns-2
 unfolding csrAt
 returns-2 c = rw (c .match .keys2)
 
--- src/csrs.rt:14:1
 returns-3 : tie.Need-returns-3
 unfolding csrAt
 returns-3 c = rw (c .match .keys3)
 
--- src/csrs.rt:14:1
 returns-4 : tie.Need-returns-4
 unfolding csrAt
 returns-4 c = rw (c .match .keys4)
 
--- src/csrs.rt:14:1
 returns-5 : tie.Need-returns-5
 unfolding csrAt
 returns-5 c = rw (c .match .keys5)
 
--- src/csrs.rt:14:1
 returns-6 : tie.Need-returns-6
 unfolding csrAt
 returns-6 c = rw (c .match .keys6)
 
--- src/csrs.rt:14:1
 returns-7 : tie.Need-returns-7
 unfolding csrAt
 returns-7 c =

@@ -3,20 +3,15 @@ use native.Mathlib.Omega.{arith}
 use Rattle.pic.specs.Ranks.{mirror}
 use Rattle.pic.proofs.ranks.mirrored.Statement.{statement}
 use Rattle.pic.proofs.ranks.mirrored.Tie as tie
-use Rattle.pic.proofs.ranks.mirrored.Reads as reads
-use Rattle.pic.proofs.ranks.mirrored.Lts as lts
 
--- src/ranks.rt:14:9
 returns : tie.Need-returns
 unfolding mirror
 returns c = rw (eq-eqb _ _ (c .if1 .taken))
 
--- src/ranks.rt:10:1
 returns-2 : tie.Need-returns-2
 unfolding mirror
 returns-2 c = rw (ne-eqb _ _ (c .before .if1 .left))
 
--- src/ranks.rt:10:1
 returns-3 : tie.Need-returns-3
 unfolding mirror
 returns-3 c = rw (ne-eqb _ _ (c .before .if1 .left)) (omega arith)

@@ -7,56 +7,42 @@ use Rattle.pic.proofs.Soundness.{source-range}
 use borrow.Author.Needs.{needs}
 use Rattle.pic.proofs.registers.register_at.Statement.{statement}
 use Rattle.pic.proofs.registers.register_at.Tie as tie
-use Rattle.pic.proofs.registers.register_at.Reads as reads
-use Rattle.pic.proofs.registers.register_at.Lts as lts
-use Rattle.pic.proofs.registers.source_register.Reads as source-register-reads
-use Rattle.pic.proofs.sources.is_source.Reads as is-source-reads
 
--- src/registers.rt:38:35
 cast-t8 : tie.Need-cast-t8
 cast-t8 c = search needs
 
--- src/registers.rt:38:13
 returns : tie.Need-returns
 unfolding pageRegister
 returns c = rw (eq-eqb _ _ (c .before .if1 .taken), lt-ltb _ _ (c .if2 .taken))
 
--- src/registers.rt:40:9
 returns-2 : tie.Need-returns-2
 unfolding pageRegister
 returns-2 c = rw (eq-eqb _ _ (c .before .if1 .taken), le-ltb _ _ (c .if2 .left))
 
--- src/registers.rt:44:13
 returns-3 : tie.Need-returns-3
 unfolding pageRegister
 returns-3 c = rw (ne-eqb _ _ (c .before .before .if1 .left), eq-eqb _ _ (c .before .if3 .taken), eq-eqb _ _ (c .if4 .taken))
 
--- src/registers.rt:46:9
 returns-4 : tie.Need-returns-4
 unfolding pageRegister
 returns-4 c = rw (ne-eqb _ _ (c .before .before .if1 .left), eq-eqb _ _ (c .before .if3 .taken), ne-eqb _ _ (c .if4 .left))
 
--- src/registers.rt:48:8
 is-source-requires : tie.Need-is-source-requires
 is-source-requires c κs = search needs
 
--- src/registers.rt:49:38
 cast-source-register : tie.Need-cast-source-register
 cast-source-register c =
     let s = source-range (c .before .before .before .before .args .n) (c .before .before .before .before .args .offset % 4096 / 4) (sym (c .before .is-source .ensures) ∙ c .if5 .taken) in
     record { fits = omega (arith, s .0, s .1) }
 
--- src/registers.rt:49:9
 source-register-requires : tie.Need-source-register-requires
 source-register-requires c κs = search needs
 
--- src/registers.rt:49:9
 returns-5 : tie.Need-returns-5
 unfolding pageRegister
 returns-5 c =
     rw (ne-eqb _ _ (c .before .before .before .before .if1 .left), ne-eqb _ _ (c .before .before .before .if3 .left), ← c .before .before .is-source .ensures, c .before .if5 .taken) (c .source-register .ensures)
 
--- src/registers.rt:31:1
 returns-6 : tie.Need-returns-6
 unfolding pageRegister
 returns-6 c =

@@ -3,19 +3,14 @@ use Rattle.pic.proofs.Turns.{join-set}
 use borrow.Author.Needs.{needs}
 use Rattle.pic.proofs.samples.join.Statement.{statement}
 use Rattle.pic.proofs.samples.join.Tie as tie
-use Rattle.pic.proofs.samples.join.Reads as reads
-use Rattle.pic.proofs.samples.join.Lts as lts
 
--- src/samples.rt:27:18
 shl-result : tie.Need-shl-result
 shl-result c = search needs
 
--- src/samples.rt:23:1
 returns : tie.Need-returns
 unfolding joinOf
 returns c = rw (c .if1 .taken) (join-set (c .before .args .w) (c .before .args .y) (c .before .pre .0) (c .before .pre .1))
 
--- src/samples.rt:23:1
 returns-2 : tie.Need-returns-2
 unfolding joinOf
 returns-2 c = rw (c .if1 .left)

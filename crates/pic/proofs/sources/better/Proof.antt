@@ -2,15 +2,11 @@ use borrow.Author.Tests.{lt-ltb, le-ltb}
 use Rattle.pic.specs.Sources.{betterOf}
 use Rattle.pic.proofs.sources.better.Statement.{statement}
 use Rattle.pic.proofs.sources.better.Tie as tie
-use Rattle.pic.proofs.sources.better.Reads as reads
-use Rattle.pic.proofs.sources.better.Lts as lts
 
--- src/sources.rt:57:1
 returns : tie.Need-returns
 unfolding betterOf
 returns c = rw (lt-ltb _ _ (c .if1 .taken))
 
--- src/sources.rt:57:1
 returns-2 : tie.Need-returns-2
 unfolding betterOf
 returns-2 c = rw (le-ltb _ _ (c .if1 .left))

@@ -1,14 +1,10 @@
 use borrow.Author.Tests.{eq-eqb, ne-eqb}
 use Rattle.pic.proofs.sources.latch_after.Statement.{statement}
 use Rattle.pic.proofs.sources.latch_after.Tie as tie
-use Rattle.pic.proofs.sources.latch_after.Reads as reads
-use Rattle.pic.proofs.sources.latch_after.Lts as lts
 
--- src/sources.rt:17:1
 returns : tie.Need-returns
 returns c = rw (ne-eqb _ _ (c .if1 .taken))
 
--- src/sources.rt:17:1
 returns-2 : tie.Need-returns-2
 returns-2 c = rw (eq-eqb _ _ (c .if1 .left))
 

@@ -2,15 +2,11 @@ use borrow.Author.Tests.{eq-eqb, ne-eqb}
 use Rattle.pic.specs.Sources.{isPending}
 use Rattle.pic.proofs.sources.pending.Statement.{statement}
 use Rattle.pic.proofs.sources.pending.Tie as tie
-use Rattle.pic.proofs.sources.pending.Reads as reads
-use Rattle.pic.proofs.sources.pending.Lts as lts
 
--- src/sources.rt:23:1
 returns : tie.Need-returns
 unfolding isPending
 returns c = rw (eq-eqb _ _ (c .if1 .taken))
 
--- src/sources.rt:23:1
 returns-2 : tie.Need-returns-2
 unfolding isPending
 returns-2 c = rw (ne-eqb _ _ (c .if1 .left))
