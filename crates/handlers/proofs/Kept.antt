@@ -1,7 +1,7 @@
 -- Every event keeps a sound machine sound.
 use Prim.Native.Nat.{ℕ, zero, suc, _+_, _-_, _^_, _≤_, _<_}
 use mathlib.Core.Path.{_≡_, refl, sym, ap, _∙_}
-use mathlib.Core.Bool.{Bool, true, false, cond, not, _||_}
+use mathlib.Core.Bool.{true, not, _||_}
 use mathlib.Core.Logic.{_⊎_, inl, inr, ⊎-elim}
 use native.Mathlib.Omega.{arith}
 use lib.ListN.{length, getD, set, length-set}
@@ -10,7 +10,6 @@ use lib.Dec.{leb, eqb}
 use lib.IntN.{pos}
 use lib.Signed.{ltZ}
 use borrow.Author.Tests.{eqb-true, eqb-false, ltb-true, leb-true, not-true}
-use Rattle.event.specs.Event.{kindOf, addressOf, shapeOf}
 use Rattle.pic.specs.declared.Controller.{Controller}
 use Rattle.pic.specs.declared.Rank.{Rank}
 use Rattle.pic.specs.Sound as pic
@@ -20,10 +19,10 @@ use Rattle.pic.proofs.Kept.{sample-sound, sample-sources, sample-current, store
 use Rattle.pic.proofs.Captures.{captured-served, margin-over}
 use Rattle.handlers.specs.declared.Handler.{Handler}
 use Rattle.handlers.specs.declared.Machine.{Machine}
-use Rattle.handlers.specs.declared.Outcome.{Outcome}
 use Rattle.handlers.specs.Fields.{withController, withMask}
 use Rattle.handlers.specs.Machines.{blank, uppermost, belowOf, levelOf, isOpen, soundOf, powerOnOf}
-use Rattle.handlers.specs.Service.{accepted, ask, lifted, mayWrite, hasHandler, newHandler, taken, marked, opened, serves, replaced, captured, chained, returned, sampleOf, loadOf, storeOf, csrReadOf, csrWriteOf, takeOf, openOf, chainOf, returnOf, setMaskOf, eventOf, stepOf}
+use Rattle.handlers.specs.Service.{lifted, mayWrite, newHandler, taken, marked, opened, serves, replaced, captured, chained, returned, csrWriteOf, stepOf}
+use Rattle.handlers.proofs.Cases.{step-cases}
 use Rattle.handlers.proofs.Stacks.{Fine, Stored, fine-kept, fine-stored, fine-popped}
 use Rattle.handlers.proofs.Facts.{StackFacts, facts, sound, top-fine, level-opened, room}
 
@@ -34,20 +33,6 @@ pub record Ready (m : Machine) : Type 0 where
 
 ready : (m : Machine) → StackFacts m → pic.soundOf (m .controller) ≡ true → length (m .stack) ≡ 15 → Ready m
 ready m f e p = record { isSound = sound m (record { stack = f; controller = e }); places = p }
-
--- A question: what holds of the machine that was handed in, and of what goes on after yes, holds of the answer.
-pub asked : (P : Machine → Type 0) (m : Machine) (t : Bool) (q : ℕ) (o : Outcome) → P m → (t ≡ true → P (o .machine)) → P (ask m t q o .machine)
-asked P m true q o a b = b refl
-asked P m false q o a b = a
-
--- What holds of two outcomes holds of the one that a test picks.
-pub picked : (P : Outcome → Type 0) (t : Bool) {a b : Outcome} → P a → P b → P (cond t a b)
-picked P true p q = p
-picked P false p q = q
-
--- The machine that is handed back is sound.
-pub record ReadyAfter (o : Outcome) : Type 0 where
-  pub after : Ready (o .machine)
 
 -- Another controller with the same N, and the same current rank where there is a handler.
 with-controller : (m : Machine) (c : Controller) → Ready m → pic.soundOf c ≡ true → c .sources ≡ m .controller .sources
@@ -287,118 +272,44 @@ masked-ready m r v l e =
     })
     (s .controller) (r .places)
 
--- The events.
+-- The controller's own events.
 module _ (m : Machine) (r : Ready m) where
   is-sound-controller : pic.soundOf (m .controller) ≡ true
   is-sound-controller = facts m (r .isSound) .controller
-
-  pub sample-ready : (x v : ℕ) → Ready (sampleOf m x v .machine)
-  unfolding sampleOf
-  sample-ready x v =
-      asked Ready m (soundOf m) 8 (lifted m (calls.sampleOf (m .controller) x v)) r (λ e.
-      with-controller m _ r (sample-sound (m .controller) is-sound-controller x v) (sample-sources (m .controller) x v)
-      (inr (sample-current (m .controller) x v)))
-
-  pub store-ready : (o v : ℕ) → Ready (storeOf m o v .machine)
-  unfolding storeOf
-  store-ready o v =
-      asked Ready m (soundOf m) 8 (lifted m (calls.storeOf (m .controller) o v)) r (λ e.
-      with-controller m _ r (store-sound (m .controller) is-sound-controller o v) (store-sources (m .controller) o v)
-      (inr (store-current (m .controller) o v)))
 
   -- The controller that it was given.
   same-ready : (c : Controller) → c ≡ m .controller → Ready (withController m c)
   same-ready c e = rw e r
 
-  pub load-ready : (o : ℕ) → Ready (loadOf m o .machine)
-  unfolding loadOf
-  load-ready o =
-      asked Ready m (soundOf m) 8 (lifted m (calls.loadOf (m .controller) o)) r (λ e. same-ready _ (load-same (m .controller) o))
-
-  pub csr-read-ready : (a : ℕ) → Ready (csrReadOf m a .machine)
-  unfolding csrReadOf
-  csr-read-ready a =
-      asked Ready m (soundOf m) 8 (lifted m (calls.csrReadOf (m .controller) a)) r (λ e. same-ready _ (csr-read-same (m .controller) a))
-
-  pub csr-write-ready : (a v : ℕ) → v < 2 ^ 32 → Ready (csrWriteOf m a v .machine)
-  unfolding csrWriteOf
-  csr-write-ready a v b =
-      asked Ready m (soundOf m) 8 (ask m (mayWrite m a) 14 (lifted m (calls.csrWriteOf (m .controller) a v))) r (λ e.
-      asked Ready m (mayWrite m a) 14 (lifted m (calls.csrWriteOf (m .controller) a v)) r (λ f.
-      with-controller m _ r (csr-write-sound (m .controller) is-sound-controller a v b) (csr-write-sources (m .controller) a v) (level f)))
-    where
-      level : mayWrite m a ≡ true → (m .depth ≡ 0) ⊎ (calls.csrWriteOf (m .controller) a v .controller .current ≡ m .controller .current)
-      level f =
-          ⊎-elim (λ g. inr (csr-write-current (m .controller) a v (λ z. eqb-false a 0xBCC (not-true _ g) z))) (λ g. inl (eqb-true (m .depth) 0 g))
-          (or-cases (not (eqb a 0xBCC)) (eqb (m .depth) 0) f)
-
-  pub take-ready : Ready (takeOf m .machine)
-  unfolding takeOf
-  take-ready =
-      asked Ready m (soundOf m) 8 _ r (λ e.
-      asked Ready m (eqb (m .mask) 1) 15 (ask m (ltZ (pos 0) (calls.captureOf (m .controller) .margin)) 16 (accepted (taken m) (calls.captureOf (m .controller) .meihap))) r (λ f.
-      asked Ready m (ltZ (pos 0) (calls.captureOf (m .controller) .margin)) 16 (accepted (taken m) (calls.captureOf (m .controller) .meihap)) r (λ g.
-      taken-ready m r (λ z. let o = eqb-true (m .mask) 1 f in omega arith) g)))
-
-  pub open-ready : Ready (openOf m .machine)
-  unfolding openOf
-  open-ready =
-      asked Ready m (soundOf m) 8 _ r (λ e.
-      asked Ready m (hasHandler m) 17 (ask m (eqb (uppermost m .opened) 0) 18 (accepted (opened m) (uppermost m .rank .0))) r (λ f.
-      asked Ready m (eqb (uppermost m .opened) 0) 18 (accepted (opened m) (uppermost m .rank .0)) r (λ g. opened-ready m r (ltb-true 0 (m .depth) f))))
-
-  pub chain-ready : Ready (chainOf m .machine)
-  unfolding chainOf
-  chain-ready =
-      asked Ready m (soundOf m) 8 _ r (λ e.
-      asked Ready m (hasHandler m) 17 (ask m (eqb (m .mask) 0) 19 out) r (λ f.
-      asked Ready m (eqb (m .mask) 0) 19 out r (λ g. go (serves m) refl (ltb-true 0 (m .depth) f))))
-    where
-      out : Outcome
-      out = cond (serves m) (accepted (chained m) (calls.captureOf (m .controller) .meihap)) (accepted (captured m) 0)
-
-      go : (t : Bool) → serves m ≡ t → 0 < m .depth
-          → Ready (cond (serves m) (accepted (chained m) (calls.captureOf (m .controller) .meihap)) (accepted (captured m) 0) .machine)
-      go true h d = rw h (chained-ready m r d h)
-      go false h d = rw h (captured-ready m r)
-
-  pub return-ready : Ready (returnOf m .machine)
-  unfolding returnOf
-  return-ready =
-      asked Ready m (soundOf m) 8 _ r (λ e.
-      asked Ready m (hasHandler m) 17 (ask m (eqb (m .mask) 0) 19 (accepted (returned m) (m .depth - 1))) r (λ f.
-      asked Ready m (eqb (m .mask) 0) 19 (accepted (returned m) (m .depth - 1)) r (λ g. returned-ready m r (ltb-true 0 (m .depth) f))))
-
-  pub set-mask-ready : (v : ℕ) → Ready (setMaskOf m v .machine)
-  unfolding setMaskOf
-  set-mask-ready v =
-      asked Ready m (soundOf m) 8 _ r (λ e.
-      asked Ready m (leb v 1) 20 (ask m (eqb v 0 || isOpen m) 21 (accepted (withMask m v) 0)) r (λ f.
-      asked Ready m (eqb v 0 || isOpen m) 21 (accepted (withMask m v) 0) r (λ g. masked-ready m r v f g)))
-
-  one-of : (t : Bool) {a b : Outcome} → ReadyAfter a → ReadyAfter b → ReadyAfter (cond t a b)
-  one-of = picked ReadyAfter
-
-  event-ready : (k a v : ℕ) → v < 2 ^ 32 → ReadyAfter (eventOf m k a v)
-  unfolding eventOf
-  event-ready k a v b =
-      one-of (eqb k 0) (record { after = sample-ready a v })
-      (one-of (eqb k 1) (record { after = load-ready a })
-      (one-of (eqb k 2) (record { after = store-ready a v })
-      (one-of (eqb k 3) (record { after = csr-read-ready a })
-      (one-of (eqb k 4) (record { after = csr-write-ready a v b })
-      (one-of (eqb k 5) (record { after = take-ready })
-      (one-of (eqb k 6) (record { after = open-ready })
-      (one-of (eqb k 7) (record { after = chain-ready })
-      (one-of (eqb k 8) (record { after = return-ready }) (record { after = set-mask-ready v })))))))))
+  write-ready : (a v : ℕ) → v < 2 ^ 32 → mayWrite m a ≡ true → Ready (lifted m (calls.csrWriteOf (m .controller) a v) .machine)
+  write-ready a v b f =
+      with-controller m _ r (csr-write-sound (m .controller) is-sound-controller a v b) (csr-write-sources (m .controller) a v)
+      (⊎-elim (λ g. inr (csr-write-current (m .controller) a v (λ z. eqb-false a 0xBCC (not-true _ g) z))) (λ g. inl (eqb-true (m .depth) 0 g))
+      (or-cases (not (eqb a 0xBCC)) (eqb (m .depth) 0) f))
 
   -- Every event keeps a sound machine sound.
   pub step-ready : (head value : ℕ) → value < 2 ^ 32 → Ready (stepOf m head value .machine)
-  unfolding stepOf
-  step-ready head value b =
-      asked Ready m (soundOf m) 8 (ask m (eqb (shapeOf head value) 0) (shapeOf head value) (eventOf m (kindOf head) (addressOf head) value)) r (λ e.
-      asked Ready m (eqb (shapeOf head value) 0) (shapeOf head value) (eventOf m (kindOf head) (addressOf head) value) r (λ f.
-      event-ready (kindOf head) (addressOf head) value b .after))
+  step-ready head v b =
+      step-cases m v (λ k o. Ready (o .machine))
+      (record {
+        refuses = λ k q n. r;
+        samples = λ x.
+            with-controller m _ r (sample-sound (m .controller) is-sound-controller x v) (sample-sources (m .controller) x v)
+            (inr (sample-current (m .controller) x v));
+        loads = λ o. same-ready _ (load-same (m .controller) o);
+        stores = λ o.
+            with-controller m _ r (store-sound (m .controller) is-sound-controller o v) (store-sources (m .controller) o v)
+            (inr (store-current (m .controller) o v));
+        reads = λ a. same-ready _ (csr-read-same (m .controller) a);
+        writes = λ a f. write-ready a v b f;
+        takes = λ f g. taken-ready m r (λ z. let o = eqb-true (m .mask) 1 f in omega arith) g;
+        opens = λ f. opened-ready m r (ltb-true 0 (m .depth) f);
+        chains = λ f e. chained-ready m r (ltb-true 0 (m .depth) f) e;
+        passes = captured-ready m r;
+        returns = λ f. returned-ready m r (ltb-true 0 (m .depth) f);
+        masks = λ k n5 n7 n8 f g. masked-ready m r v f g;
+      })
+      head
 
 -- Power-on is sound, also with an N that it refuses.
 pub power-on-ready : (n : ℕ) → Ready (powerOnOf n .machine)
@@ -407,3 +318,8 @@ power-on-ready n =
     ready (powerOnOf n .machine)
     (record { few = omega arith; bit = omega arith; handlers = λ j l. absurd (omega arith); current = inl refl; masked = inl refl })
     (power-on-sound n) refl
+
+-- It has no handler.
+pub power-on-empty : (n : ℕ) → powerOnOf n .machine .depth ≡ 0
+unfolding powerOnOf
+power-on-empty n = refl

@@ -23,7 +23,7 @@ accepted c a = handed (settle c) a
 abbrev pub refused : Controller → ℕ → Outcome
 refused c q = record { controller = c; answer = 0; refusal = q }
 
--- The first question: no is the refusal q, yes goes on.
+-- A question: no is the refusal q, yes goes on.
 abbrev pub ask : Controller → Bool → ℕ → Outcome → Outcome
 ask c answer q on = cond answer on (refused c q)
 
