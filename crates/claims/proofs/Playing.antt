@@ -6,16 +6,16 @@ use mathlib.Core.List.{List, [], _∷_, _++_, append-assoc}
 use native.Mathlib.Numerals.{add-one}
 use native.Mathlib.Omega.{arith}
 use lib.ListN.{length, getD, take, drop, set, length-append}
-use lib.Seq.{drop-cons, set-append-seam}
+use lib.Seq.{drop-cons, set-append-seam, take-all}
 use lib.Dec.{ltb}
-use borrow.Author.Tests.{ltb-true, ltb-false}
+use borrow.Author.Tests.{ltb-true, ltb-false, le-ltb}
 use Rattle.nesting.specs.Claim as claim
 use Rattle.handlers.specs.declared.Machine.{Machine}
 use Rattle.handlers.specs.declared.Outcome.{Outcome}
 use Rattle.handlers.specs.Machines.{powerOnOf}
 use Rattle.handlers.specs.Service.{stepOf}
 use Rattle.claims.specs.declared.Played.{Played}
-use Rattle.claims.specs.Play.{least, endOf, eachOf, filled, countOf, playedOf}
+use Rattle.claims.specs.Play.{least, endOf, eachOf, answersOf, refusalsOf, filled, countOf, playedOf}
 use Rattle.claims.specs.Nested.{word, eh1, eventsOf, Claimed}
 use Rattle.claims.proofs.Laws.{demand-3}
 
@@ -130,3 +130,51 @@ module _ (n : ℕ) (hs vs : List ℕ) {on : Outcome} {m : Machine} {k i : ℕ} (
   pub stored-end : (out : Outcome → ℕ) (old : List ℕ) {l : List ℕ} → l ≡ filled (eachOf out (on .machine) (take i hs) (take i vs)) old
       → l ≡ filled (eachOf out (powerOnOf n .machine) (take k hs) (take k vs)) old
   stored-end out old hl = hl ∙ rw (ho, hi)
+
+-- The lesser is the first where that is at most the second; what is at most both is at most the lesser.
+least-first : (a b : ℕ) → a ≤ b → least a b ≡ a
+unfolding least
+least-first a b h = rw (le-ltb b a h)
+
+least-above : (k a b : ℕ) → k ≤ a → k ≤ b → k ≤ least a b
+unfolding least
+least-above k a b h g = go (ltb b a)
+  where
+    go : (t : Bool) → k ≤ cond t b a
+    go true = g
+    go false = h
+
+-- Values as many as heads, and arrays that hold them: all events are played.
+pub count-all : (a b c d : ℕ) → b ≡ a → a ≤ c → a ≤ d → countOf a b c d ≡ a
+count-all a b c d e h g =
+    let ab : a ≤ b = omega (arith, e) in
+    rw (least-first a b ab) (least-first a (least c d) (least-above a c d h g))
+
+-- What the whole list leaves.
+pub record PlayedAll (n : ℕ) (hs vs answers₀ refusals₀ : List ℕ) (p : Played) (answers refusals : List ℕ) : Type 0 where
+  pub machine : p .machine ≡ endOf (powerOnOf n .machine) hs vs
+  pub has-answers : answers ≡ filled (answersOf (powerOnOf n .machine) hs vs) answers₀
+  pub has-refusals : refusals ≡ filled (refusalsOf (powerOnOf n .machine) hs vs) refusals₀
+  pub as-many-answers : length (answersOf (powerOnOf n .machine) hs vs) ≡ length hs
+  pub as-many-refusals : length (refusalsOf (powerOnOf n .machine) hs vs) ≡ length hs
+
+pub played-all : (n : ℕ) (hs vs answers₀ refusals₀ : List ℕ) {p : Played} {answers refusals : List ℕ}
+    → length vs ≡ length hs → length hs ≤ length answers₀ → length hs ≤ length refusals₀
+    → p ≡ playedOf n (countOf (length hs) (length vs) (length answers₀) (length refusals₀)) hs vs
+    → answers ≡ filled (answersOf (powerOnOf n .machine) (take (p .events) hs) (take (p .events) vs)) answers₀
+    → refusals ≡ filled (refusalsOf (powerOnOf n .machine) (take (p .events) hs) (take (p .events) vs)) refusals₀
+    → PlayedAll n hs vs answers₀ refusals₀ p answers refusals
+played-all n hs vs answers₀ refusals₀ {p} {answers} {refusals} same ha hr ep ea er =
+    let count : countOf (length hs) (length vs) (length answers₀) (length refusals₀) ≡ length hs = count-all (length hs) (length vs) (length answers₀) (length refusals₀) same ha hr in
+    let hs-all : take (length hs) hs ≡ hs = take-all (length hs) hs (omega arith) in
+    let vs-all : take (length hs) vs ≡ vs = take-all (length hs) vs (omega (arith, same)) in
+    let events : p .events ≡ length hs = ap (λ (q : Played). q .events) ep ∙ count in
+    let long : (out : Outcome → ℕ) → length (eachOf out (powerOnOf n .machine) hs vs) ≡ length hs =
+    λ out. ap length (sym (ap (λ (l : List ℕ). eachOf out (powerOnOf n .machine) l (take (length hs) vs)) hs-all ∙ ap (eachOf out (powerOnOf n .machine) hs) vs-all)) ∙ each-length out (powerOnOf n .machine) (length hs) hs vs (omega arith) (omega (arith, same)) in
+    record {
+      machine = ap (λ (q : Played). q .machine) ep ∙ rw (count, hs-all, vs-all);
+      has-answers = ea ∙ rw (events, hs-all, vs-all);
+      has-refusals = er ∙ rw (events, hs-all, vs-all);
+      as-many-answers = long (λ (o : Outcome). o .answer);
+      as-many-refusals = long (λ (o : Outcome). o .refusal);
+    }

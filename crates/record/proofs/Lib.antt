@@ -5,4 +5,6 @@ pub mod Questions
 pub mod Answers
 pub mod RoundTrip
 pub mod Trips
+pub mod Parts
+pub mod TooLong
 pub mod Points

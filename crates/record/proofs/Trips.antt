@@ -23,7 +23,7 @@ use Rattle.record.proofs.Answers.{write-done, write-not, read-done, rea
 use Rattle.record.proofs.RoundTrip.{length-written, reads-back, writes-back}
 
 -- What is stored is read out again.
-stored-part : (v : Verdict) (new old : List ℕ) (n : ℕ) {d : List ℕ} → v .refusal ≡ 0 → length new ≡ n → d ≡ stored v new old → take n d ≡ new
+pub stored-part : (v : Verdict) (new old : List ℕ) (n : ℕ) {d : List ℕ} → v .refusal ≡ 0 → length new ≡ n → d ≡ stored v new old → take n d ≡ new
 stored-part v new old n z l e = rw (e, eq-eqb _ _ z) (take-at new (drop (length new) old) n l)
 
 -- Written, then read: what the two calls leave.

@@ -1,0 +1,7 @@
+-- What is proved of the print.
+pub mod Rows
+pub mod Signs
+pub mod Printing
+pub mod Whole
+pub mod Reading
+pub mod Points

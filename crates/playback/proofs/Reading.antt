@@ -1,0 +1,104 @@
+-- A record that was read: its parts, and what is known of them.
+use Prim.Native.Nat.{ℕ, _+_, _≤_, _<_}
+use native.Mathlib.Omega.{arith}
+use mathlib.Core.Bool.{Bool, true, false}
+use mathlib.Core.Path.{_≡_, refl, sym, subst, ap, _∙_}
+use mathlib.Core.List.{List}
+use lib.ListN.{length, getD, take, drop, length-append}
+use lib.Seq.{length-take-le}
+use lib.Dec.{ltb}
+use borrow.Author.Tests.{eq-eqb, ne-eqb, ltb-true, ltb-false, lt-leb, le-leb}
+use Rattle.event.specs.Event.{kindOf, shapeOf}
+use Rattle.event.proofs.Laws.{shape-6}
+use Rattle.record.specs.declared.Verdict.{Verdict}
+use Rattle.record.specs.declared.ReadAnswer.{ReadAnswer}
+use Rattle.record.specs.declared.ReadAnswer.the-variants as reading
+use Rattle.record.specs.Record.{board, countOf, sourcesOf, headsOf, valuesOf}
+use Rattle.record.specs.Questions.{readVerdict}
+use Rattle.record.specs.Answers.{allYes, readNumbers, readAnswer, readHeads, readValues}
+use Rattle.record.proofs.Walk.{heads-length, values-length, walk-clear}
+use Rattle.record.proofs.Questions.{Readable, readable}
+use Rattle.record.proofs.Answers.{read-done, read-not}
+use Rattle.record.proofs.Trips.{stored-part}
+use Rattle.playback.specs.Print.{KnownKinds, asked, printOf, playedLines, refusedLine, filled, Counts, room, printedLength, printedInto}
+
+-- An event that passes question 6 is of a kind 0..9.
+kind-known : (head value : ℕ) → shapeOf head value ≡ 0 → kindOf head < 10
+kind-known head value e = go (ltb (kindOf head) 10) refl
+  where
+    go : (t : Bool) → ltb (kindOf head) 10 ≡ t → kindOf head < 10
+    go true t = ltb-true (kindOf head) 10 t
+    go false t = let six : 6 ≡ shapeOf head value = shape-6 head value (ltb-false (kindOf head) 10 t) in absurd (omega (arith, six, e))
+
+-- Arrays of 4,000 places.
+at-4000 : (bytes : List ℕ) {a b : ℕ} → a ≡ 4000 → b ≡ 4000 → readVerdict board bytes a b ≡ asked bytes
+at-4000 bytes {a} {b} ea eb = ap (λ (x : ℕ). readVerdict board bytes x b) ea ∙ ap (readVerdict board bytes 4000) eb
+
+pub record Fetched (bytes heads values : List ℕ) (n s : ℕ) : Type 0 where
+  pub yes : allYes (asked bytes) ≡ true
+  pub sources : s ≡ sourcesOf bytes
+  pub in-heads : n ≤ length heads
+  pub in-values : n ≤ length values
+  pub has-heads : take n heads ≡ headsOf bytes
+  pub has-values : take n values ≡ valuesOf bytes
+  pub few : length (headsOf bytes) ≤ 4000
+  pub same : length (valuesOf bytes) ≡ length (headsOf bytes)
+  pub kinds : KnownKinds (headsOf bytes)
+
+pub fetched : (bytes heads₀ values₀ : List ℕ) {r : ReadAnswer} {heads values : List ℕ} {n s : ℕ} → length heads₀ ≡ 4000 → length values₀ ≡ 4000
+    → length heads ≡ length heads₀ → length values ≡ length values₀
+    → readNumbers r ≡ readAnswer board bytes (length heads₀) (length values₀) → heads ≡ readHeads board bytes heads₀ values₀ → values ≡ readValues board bytes heads₀ values₀
+    → r ≡ reading.Done n s → Fetched bytes heads values n s
+fetched bytes heads₀ values₀ {r} {heads} {values} {n} {s} lh lv kh kv er eh ev d =
+    let done = read-done board bytes (length heads₀) (length values₀) er d in
+    let ok : readVerdict board bytes 4000 4000 .refusal ≡ 0 = ap (λ (v : Verdict). v .refusal) (sym (at-4000 bytes lh lv)) ∙ done .0 in
+    let q = readable board bytes 4000 4000 ok in
+    let hl : length (headsOf bytes) ≡ countOf bytes = heads-length bytes (countOf bytes) (q .whole) in
+    let vl : length (valuesOf bytes) ≡ countOf bytes = values-length bytes (countOf bytes) (q .whole) in
+    let same : length (valuesOf bytes) ≡ length (headsOf bytes) = vl ∙ sym hl in
+    record {
+      yes = eq-eqb (asked bytes .refusal) 0 ok;
+      sources = done .2;
+      in-heads = omega (arith, done .1, q .few, lh, kh);
+      in-values = omega (arith, done .1, q .few, lv, kv);
+      has-heads = stored-part (readVerdict board bytes (length heads₀) (length values₀)) (headsOf bytes) heads₀ n (done .0) (hl ∙ sym (done .1)) eh;
+      has-values = stored-part (readVerdict board bytes (length heads₀) (length values₀)) (valuesOf bytes) values₀ n (done .0) (vl ∙ sym (done .1)) ev;
+      few = omega (arith, hl, q .few);
+      same = same;
+      kinds = λ j l. kind-known (getD (headsOf bytes) j 0) (getD (valuesOf bytes) j 0) (walk-clear (headsOf bytes) (valuesOf bytes) (sym same) (q .events) j l);
+    }
+
+-- The print of a record that is played, and of one that is refused.
+pub print-done : (bytes : List ℕ) → allYes (asked bytes) ≡ true → printOf bytes ≡ playedLines (sourcesOf bytes) (headsOf bytes) (valuesOf bytes)
+print-done bytes e = rw e
+
+pub print-refused : (bytes heads₀ values₀ : List ℕ) {r : ReadAnswer} {number place : ℕ} → length heads₀ ≡ 4000 → length values₀ ≡ 4000
+    → readNumbers r ≡ readAnswer board bytes (length heads₀) (length values₀) → r ≡ reading.Refused number place → refusedLine number place ≡ printOf bytes
+print-refused bytes heads₀ values₀ {r} {number} {place} lh lv er d =
+    let no = read-not board bytes (length heads₀) (length values₀) er d in
+    let here = at-4000 bytes lh lv in
+    let refusal : number ≡ asked bytes .refusal = no .1 ∙ ap (λ (v : Verdict). v .refusal) here in
+    let spot : place ≡ asked bytes .place = no .2 ∙ ap (λ (v : Verdict). v .place) here in
+    rw (ne-eqb (asked bytes .refusal) 0 (λ z. no .0 (ap (λ (v : Verdict). v .refusal) here ∙ z)), refusal, spot)
+
+-- A text that was put at the start is the print, where it is equal to it.
+pub printed-as : (out s t d : List ℕ) (r : ℕ) → s ≡ t → (r ≡ length s) × (d ≡ filled s out) → (r ≡ length t) × (d ≡ filled t out)
+printed-as out s t d r e p = subst (λ (x : List ℕ). (r ≡ length x) × (d ≡ filled x out)) e p
+
+pub played-is : {bytes heads values : List ℕ} {n s : ℕ} → Fetched bytes heads values n s → playedLines s (take n heads) (take n values) ≡ printOf bytes
+played-is {bytes} f = rw (f .has-heads, f .has-values, f .sources) (sym (print-done bytes (f .yes)))
+
+-- Into a buffer of any length.
+pub no-room : (bytes out : List ℕ) → length out < 88143 → (0 ≡ printedLength bytes (length out)) × (out ≡ printedInto bytes out)
+no-room bytes out h = rw (lt-leb room (length out) h) (refl, refl)
+
+pub with-room : (bytes out : List ℕ) {d : List ℕ} {r : ℕ} → 88143 ≤ length out → (r ≡ length (printOf bytes)) × (d ≡ filled (printOf bytes) out)
+    → (r ≡ printedLength bytes (length out)) × (d ≡ printedInto bytes out)
+with-room bytes out h p = rw (le-leb room (length out) h) p
+
+-- The print stands at the start of the buffer that it fills.
+pub print-counts : (bytes out : List ℕ) {d : List ℕ} {r : ℕ} → r ≡ length (printOf bytes) → d ≡ filled (printOf bytes) out → Counts r d
+print-counts bytes out {d} {r} e f =
+    let rest : List ℕ = drop (length (printOf bytes)) out in
+    let within : r ≤ length d = rw (f, length-append (printOf bytes) rest) (omega (arith, e)) in
+    (within, sym (length-take-le r d within))

@@ -1,0 +1,62 @@
+use Rattle.digits.proofs.Pieces.{stands-as}
+use Rattle.playback.proofs.Whole.{last-fits, end-is}
+use lib.ListN.{length}
+use mathlib.Core.Path.{_≡_, ap, _∙_}
+use mir.Facts.{toZ-ofZ}
+use mir.Val.{toZ, ofZ}
+use mir.Syntax.{w32}
+use lib.IntN.{ℤ, pos, natAbs}
+use lib.Signed.{ltZ}
+use borrow.Author.Needs.{needs}
+use Rattle.playback.proofs.bytes.put_end.Statement.{statement}
+use Rattle.playback.proofs.bytes.put_end.Tie as tie
+use Rattle.playback.proofs.bytes.put_end.Reads as reads
+use Rattle.playback.proofs.bytes.put_end.Lts as lts
+use Rattle.handlers.proofs.Machine.margin.Reads as margin-reads
+use Rattle.playback.proofs.lines.is_below.Reads as is-below-reads
+use Rattle.playback.proofs.lines.put_last.Reads as put-last-reads
+use Rattle.playback.proofs.lines.size.Reads as size-reads
+
+-- src/print.rt:54:9
+margin-requires : tie.Need-margin-requires
+margin-requires c κs = search needs
+
+-- src/print.rt:55:9
+is-below-requires : tie.Need-is-below-requires
+is-below-requires c κs = search needs
+
+-- src/print.rt:56:9
+size-requires : tie.Need-size-requires
+size-requires c κs = search needs
+
+-- src/print.rt:61:9
+cast-put-last : tie.Need-cast-put-last
+cast-put-last c = search needs
+
+-- src/print.rt:57:5
+put-last-requires : tie.Need-put-last-requires
+put-last-requires c κs = last-fits (length (denote.Ref.now (c .before .before .before .before .before .before .before .before .args .out))) (c .before .before .before .before .before .before .before .before .args .at) ((c .before .before .before .before .before .before .before .before .args .m) .depth) ((c .before .before .before .before .before .before .before .before .args .m) .controller .current .0) (c .before .before .before .before .is-below .result) (c .before .before .size .result) (c .before .before .before .before .before .before .before .before .pre)
+
+-- src/print.rt:49:1
+same-length : tie.Need-same-length
+same-length c = search needs
+
+-- src/print.rt:49:1
+-- The margin as it was passed on.
+passed : (c : tie.After-size) → toZ w32 (ofZ w32 (c .before .before .before .before .margin .result .margin)) ≡ c .before .before .before .before .margin .result .margin
+passed c = toZ-ofZ {w = w32} {z = c .before .before .before .before .margin .result .margin} (search needs)
+
+returns : tie.Need-returns
+returns c = stands-as (denote.Ref.now (c .before .before .before .before .before .before .before .before .before .before .before .args .out)) (c .before .before .before .before .before .before .before .before .before .before .before .args .at) (end-is (c .before .before .before .before .before .before .before .before .before .before .before .args .m) (c .before .before .before .before .before .before .before .before .before .margin .ensures) ((c .before .before .before .before .before .before .before .is-below .ensures) ∙ ap (λ (z : ℤ). ltZ z (pos 0)) (passed (c .before .before .before .before .before))) ((c .before .before .before .before .before .size .ensures) ∙ ap natAbs (passed (c .before .before .before .before .before)))) (c .before .before .put-last .ensures)
+
+pub put-end-spec : {M : Type 1} → statement M
+put-end-spec =
+    tie.close
+    (tie.spec
+    margin-requires
+    is-below-requires
+    size-requires
+    cast-put-last
+    put-last-requires
+    same-length
+    returns)

@@ -1,0 +1,93 @@
+-- Document 01, "The player": the print of a record, whole.
+use Prim.Native.Nat.{ℕ, suc, _≤_, _<_}
+use mathlib.Core.Bool.{Bool, cond}
+use mathlib.Core.Path.{_≡_}
+use mathlib.Core.List.{List, [], _∷_, _++_}
+use lib.ListN.{length, getD, take, drop}
+use lib.Dec.{leb}
+use lib.IntN.{pos, natAbs}
+use lib.Signed.{ltZ}
+use Rattle.digits.specs.Digits.{decimal}
+use Rattle.event.specs.Event.{kindOf}
+use Rattle.record.specs.declared.Verdict.{Verdict}
+use Rattle.record.specs.Record.{board, sourcesOf, headsOf, valuesOf}
+use Rattle.record.specs.Questions.{readVerdict}
+use Rattle.record.specs.Answers.{allYes}
+use Rattle.handlers.specs.declared.Machine.{Machine}
+use Rattle.handlers.specs.Machines.{powerOnOf}
+use Rattle.handlers.specs.Service.{marginAnswer}
+use Rattle.claims.specs.Play.{endOf, answersOf, refusalsOf}
+use Rattle.playback.specs.Text.{ascii, signed}
+
+-- The first line: `sources 4 events 10`.
+abbrev pub firstLine : ℕ → ℕ → List ℕ
+firstLine sources events = ascii "sources " ++ decimal sources ++ ascii " events " ++ decimal events ++ ascii "\n"
+
+-- Per event it prints index, kind, answer, refusal (0 if accepted).
+abbrev pub eventLine : ℕ → ℕ → ℕ → ℕ → List ℕ
+eventLine index kind answer refusal =
+    decimal index ++ ascii " " ++ decimal kind ++ ascii " " ++ decimal answer ++ ascii " " ++ decimal refusal ++ ascii "\n"
+
+-- The lines of events, the first of them with this index: heads, answers and refusals beside one another.
+unfoldable pub eventLines : ℕ → List ℕ → List ℕ → List ℕ → List ℕ
+eventLines index [] answers refusals = []
+eventLines index (head ∷ heads) [] refusals = []
+eventLines index (head ∷ heads) (answer ∷ answers) [] = []
+eventLines index (head ∷ heads) (answer ∷ answers) (refusal ∷ refusals) =
+    eventLine index (kindOf head) answer refusal ++ eventLines (suc index) heads answers refusals
+
+-- The last line: `end open 0 level 0 margin 5`. The margin has a sign: whether it is below 0, and how far it is from 0.
+abbrev pub lastLine : ℕ → ℕ → Bool → ℕ → List ℕ
+lastLine depth level below size =
+    ascii "end open " ++ decimal depth ++ ascii " level " ++ decimal level ++ ascii " margin " ++ signed below size ++ ascii "\n"
+
+-- Open, as a number, is how many handlers are on the stack; level is current's rank.
+abbrev pub endLine : Machine → List ℕ
+endLine m =
+    lastLine (m .depth) (m .controller .current .0) (ltZ (marginAnswer m .margin) (pos 0)) (natAbs (marginAnswer m .margin))
+
+-- A bad record prints only, say, `refused 4 at 0`.
+abbrev pub refusedLine : ℕ → ℕ → List ℕ
+refusedLine refusal place = ascii "refused " ++ decimal refusal ++ ascii " at " ++ decimal place ++ ascii "\n"
+
+-- The events of a record, played from power-on.
+abbrev pub playedLines : ℕ → List ℕ → List ℕ → List ℕ
+playedLines sources heads values =
+    firstLine sources (length heads)
+    ++ eventLines 0 heads (answersOf (powerOnOf sources .machine) heads values) (refusalsOf (powerOnOf sources .machine) heads values)
+    ++ endLine (endOf (powerOnOf sources .machine) heads values)
+
+-- The questions of a record that is read into arrays which hold any record.
+abbrev pub asked : List ℕ → Verdict
+asked bytes = readVerdict board bytes 4000 4000
+
+-- The whole print.
+abbrev pub printOf : List ℕ → List ℕ
+printOf bytes =
+    cond
+    (allYes (asked bytes))
+    (playedLines (sourcesOf bytes) (headsOf bytes) (valuesOf bytes))
+    (refusedLine (asked bytes .refusal) (asked bytes .place))
+
+-- The heads of an accepted record: the kind is 0..9.
+abbrev pub KnownKinds : List ℕ → Type 0
+KnownKinds heads = (j : ℕ) → j < length heads → kindOf (getD heads j 0) < 10
+
+-- The print fills the lent buffer from its start; the bytes beyond stay as they were.
+abbrev pub filled : List ℕ → List ℕ → List ℕ
+filled new old = new ++ drop (length new) old
+
+-- So many bytes stand at the start of a buffer: what a caller that goes on with them needs to know.
+abbrev pub Counts : ℕ → List ℕ → Type 0
+Counts n buffer = (n ≤ length buffer) × (n ≡ length (take n buffer))
+
+-- Room for any record's print.
+abbrev pub room : ℕ
+room = 88143
+
+-- A buffer with less room than that stays as it was, and the answer is 0.
+abbrev pub printedLength : List ℕ → ℕ → ℕ
+printedLength bytes space = cond (leb room space) (length (printOf bytes)) 0
+
+abbrev pub printedInto : List ℕ → List ℕ → List ℕ
+printedInto bytes buffer = cond (leb room (length buffer)) (filled (printOf bytes) buffer) buffer

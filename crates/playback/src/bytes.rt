@@ -1,0 +1,130 @@
+// The whole print of a record.
+
+ghost use mathlib.Core.Path.{_≡_};
+ghost use Prim.Native.Nat.{_+_, _*_, _≤_};
+ghost use lib.ListN.{length};
+ghost use lib.Seq.{sets};
+ghost use Rattle.playback.specs.Print.{KnownKinds, eventLines, endLine, playedLines, printOf, filled, Counts, printedLength, printedInto};
+use crate::lines::is_below;
+use crate::lines::put_event;
+use crate::lines::put_last;
+use crate::lines::put_line;
+use crate::lines::size;
+use handlers::Machine;
+use record::ReadAnswer;
+
+// Enough for the print of any record: no number has more than twenty digits, so the first line has at most 57 bytes and the last at most 86. In the line of an
+// event the index has at most 4 digits, the kind 1, the answer 10 and the refusal 3, so it has at most 22 bytes, and there are at most 4,000.
+pub const PRINT_SIZE: usize = 88143;
+
+// Puts the lines of the events from a place on, and answers the place after them.
+fn put_events(out: &mut [u8], at: usize, heads: &[u32], answers: &[u32], refusals: &[u8]) -> usize
+    requires { ⌜ (length (now heads) ≤ 4000) × (length (now heads) ≤ length (now answers)) × (length (now heads) ≤ length (now refusals))
+        × (at + 22 * length (now heads) ≤ length (now out)) × KnownKinds (now heads) ⌝ }
+    ensures { λ r. ⌜ r ≡ at + length (eventLines 0 (now (heads .entry)) (now (answers .entry)) (now (refusals .entry))) ⌝ }
+    ensures { λ _. ⌜ now (out .exit) ≡ sets (now (out .entry)) at (eventLines 0 (now (heads .entry)) (now (answers .entry)) (now (refusals .entry))) ⌝ }
+    ensures { λ r. ⌜ r ≤ at + 22 * length (now (heads .entry)) ⌝ }
+{
+    let mut next = at;
+    let mut i: usize = 0;
+    while i < heads.len() {
+        next = put_event(
+            out,
+            next,
+            i as u64,
+            event::kind(heads[i]) as u64,
+            answers[i] as u64,
+            refusals[i] as u64,
+        );
+        i += 1;
+    }
+    next
+}
+
+// Puts the last line of a machine.
+fn put_end(out: &mut [u8], at: usize, m: Machine) -> usize
+    requires { ⌜ at + 86 ≤ length (now out) ⌝ }
+    ensures { λ r. ⌜ r ≡ at + length (endLine m) ⌝ }
+    ensures { λ _. ⌜ now (out .exit) ≡ sets (now (out .entry)) at (endLine m) ⌝ }
+{
+    let q = m.margin();
+    let below = is_below(q.margin);
+    let far = size(q.margin);
+    put_last(
+        out,
+        at,
+        m.depth as u64,
+        m.controller.current.0 as u64,
+        below,
+        far,
+    )
+}
+
+// Plays the events from power-on, and puts their print at the start.
+fn print_played(out: &mut [u8], sources: u32, heads: &[u32], values: &[u32]) -> usize
+    requires { ⌜ (length (now heads) ≤ 4000) × (length (now values) ≡ length (now heads)) × KnownKinds (now heads) × (88143 ≤ length (now out)) ⌝ }
+    ensures { λ r. ⌜ r ≡ length (playedLines sources (now (heads .entry)) (now (values .entry))) ⌝ }
+    ensures { λ _. ⌜ now (out .exit) ≡ filled (playedLines sources (now (heads .entry)) (now (values .entry))) (now (out .entry)) ⌝ }
+{
+    let mut answers: [u32; 4000] = [0; 4000];
+    let mut refusals: [u8; 4000] = [0; 4000];
+    let played = claims::play(sources, heads, values, &mut answers, &mut refusals);
+    let a = put_line(
+        out,
+        0,
+        b"sources ",
+        sources as u64,
+        b" events ",
+        heads.len() as u64,
+    );
+    let b = put_events(out, a, heads, &answers, &refusals);
+    let m = played.machine;
+    put_end(out, b, m)
+}
+
+// Puts the print of a record at the start.
+fn print_to(record: &[u8], out: &mut [u8]) -> usize
+    requires { ⌜ 88143 ≤ length (now out) ⌝ }
+    ensures { λ r. ⌜ r ≡ length (printOf (now («record» .entry))) ⌝ }
+    ensures { λ _. ⌜ now (out .exit) ≡ filled (printOf (now («record» .entry))) (now (out .entry)) ⌝ }
+{
+    let mut heads: [u32; 4000] = [0; 4000];
+    let mut values: [u32; 4000] = [0; 4000];
+    let got = record::read(record, &mut heads, &mut values);
+    match got {
+        ReadAnswer::Done { events, sources } => print_played(
+            out,
+            sources,
+            &heads[..events],
+            &values[..events],
+        ),
+        ReadAnswer::Refused { refusal, place } => put_line(
+            out,
+            0,
+            b"refused ",
+            refusal as u64,
+            b" at ",
+            place as u64,
+        ),
+    }
+}
+
+// Prints a record: the print fills the first bytes, and the answer is how many.
+pub fn print(record: &[u8], out: &mut [u8; PRINT_SIZE]) -> usize
+    ensures { λ r. ⌜ r ≡ length (printOf (now («record» .entry))) ⌝ }
+    ensures { λ _. ⌜ now (out .exit) ≡ filled (printOf (now («record» .entry))) (now (out .entry)) ⌝ }
+    ensures { λ r. ⌜ Counts r (now (out .exit)) ⌝ }
+{
+    print_to(record, out)
+}
+
+// Prints a record into a buffer of any length. With less than PRINT_SIZE bytes it stays as it was, and the answer is 0.
+pub fn print_into(record: &[u8], out: &mut [u8]) -> usize
+    ensures { λ r. ⌜ r ≡ printedLength (now («record» .entry)) (length (now (out .entry))) ⌝ }
+    ensures { λ _. ⌜ now (out .exit) ≡ printedInto (now («record» .entry)) (now (out .entry)) ⌝ }
+{
+    if out.len() < PRINT_SIZE {
+        return 0;
+    }
+    print_to(record, out)
+}
