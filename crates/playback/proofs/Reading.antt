@@ -1,7 +1,7 @@
 -- A record that was read: its parts, and what is known of them.
 use Prim.Native.Nat.{ℕ, _+_, _≤_, _<_}
 use native.Mathlib.Omega.{arith}
-use mathlib.Core.Bool.{Bool, true, false}
+use mathlib.Core.Bool.{Bool, true, false, cond}
 use mathlib.Core.Path.{_≡_, refl, sym, subst, ap, _∙_}
 use mathlib.Core.List.{List}
 use lib.ListN.{length, getD, take, drop, length-append}
@@ -17,9 +17,10 @@ use Rattle.record.specs.Record.{board, countOf, sourcesOf, headsOf, valuesOf}
 use Rattle.record.specs.Questions.{readVerdict}
 use Rattle.record.specs.Answers.{allYes, readNumbers, readAnswer, readHeads, readValues}
 use Rattle.record.proofs.Walk.{heads-length, values-length, walk-clear}
-use Rattle.record.proofs.Questions.{Readable, readable}
-use Rattle.record.proofs.Answers.{read-done, read-not}
-use Rattle.record.proofs.Trips.{stored-part}
+use Rattle.record.proofs.Answers.{read-not}
+use Rattle.record.proofs.Parts.{read-parts}
+use Rattle.record.proofs.TooLong.{read-cut, long-refused}
+use Rattle.playback.specs.Text.{ascii}
 use Rattle.playback.specs.Print.{KnownKinds, asked, printOf, playedLines, refusedLine, filled, Counts, room, printedLength, printedInto}
 
 -- An event that passes question 6 is of a kind 0..9.
@@ -50,19 +51,18 @@ pub fetched : (bytes heads₀ values₀ : List ℕ) {r : ReadAnswer} {heads valu
     → readNumbers r ≡ readAnswer board bytes (length heads₀) (length values₀) → heads ≡ readHeads board bytes heads₀ values₀ → values ≡ readValues board bytes heads₀ values₀
     → r ≡ reading.Done n s → Fetched bytes heads values n s
 fetched bytes heads₀ values₀ {r} {heads} {values} {n} {s} lh lv kh kv er eh ev d =
-    let done = read-done board bytes (length heads₀) (length values₀) er d in
-    let ok : readVerdict board bytes 4000 4000 .refusal ≡ 0 = ap (λ (v : Verdict). v .refusal) (sym (at-4000 bytes lh lv)) ∙ done .0 in
-    let q = readable board bytes 4000 4000 ok in
+    let p = read-parts board bytes heads₀ values₀ er eh ev d in
+    let q = p .accepts in
     let hl : length (headsOf bytes) ≡ countOf bytes = heads-length bytes (countOf bytes) (q .whole) in
     let vl : length (valuesOf bytes) ≡ countOf bytes = values-length bytes (countOf bytes) (q .whole) in
     let same : length (valuesOf bytes) ≡ length (headsOf bytes) = vl ∙ sym hl in
     record {
-      yes = eq-eqb (asked bytes .refusal) 0 ok;
-      sources = done .2;
-      in-heads = omega (arith, done .1, q .few, lh, kh);
-      in-values = omega (arith, done .1, q .few, lv, kv);
-      has-heads = stored-part (readVerdict board bytes (length heads₀) (length values₀)) (headsOf bytes) heads₀ n (done .0) (hl ∙ sym (done .1)) eh;
-      has-values = stored-part (readVerdict board bytes (length heads₀) (length values₀)) (valuesOf bytes) values₀ n (done .0) (vl ∙ sym (done .1)) ev;
+      yes = eq-eqb (asked bytes .refusal) 0 (ap (λ (v : Verdict). v .refusal) (sym (at-4000 bytes lh lv)) ∙ p .yes);
+      sources = p .sources;
+      in-heads = omega (arith, p .count, q .few, lh, kh);
+      in-values = omega (arith, p .count, q .few, lv, kv);
+      has-heads = p .heads;
+      has-values = p .values;
       few = omega (arith, hl, q .few);
       same = same;
       kinds = λ j l. kind-known (getD (headsOf bytes) j 0) (getD (valuesOf bytes) j 0) (walk-clear (headsOf bytes) (valuesOf bytes) (sym same) (q .events) j l);
@@ -102,3 +102,19 @@ print-counts bytes out {d} {r} e f =
     let rest : List ℕ = drop (length (printOf bytes)) out in
     let within : r ≤ length d = rw (f, length-append (printOf bytes) rest) (omega (arith, e)) in
     (within, sym (length-take-le r d within))
+
+-- Of an input that is longer than any record, as much as is longer too prints the same: what the player reads is enough.
+pub print-cut : (bytes : List ℕ) (m : ℕ) → 32008 < m → m ≤ length bytes → printOf (take m bytes) ≡ printOf bytes
+print-cut bytes m h l =
+    let same : asked (take m bytes) ≡ asked bytes = read-cut board bytes m 4000 4000 h l in
+    let no : asked bytes .refusal ≡ 0 → ⊥ = long-refused board bytes 4000 4000 (omega arith) in
+    rw (same, ne-eqb (asked bytes .refusal) 0 no)
+
+-- Every print has a line, so an answer of 0 comes from a buffer that is too short.
+pub print-some : (bytes : List ℕ) → 0 < length (printOf bytes)
+unfolding ascii
+print-some bytes = go (allYes (asked bytes))
+  where
+    go : (t : Bool) → 0 < length (cond t (playedLines (sourcesOf bytes) (headsOf bytes) (valuesOf bytes)) (refusedLine (asked bytes .refusal) (asked bytes .place)))
+    go true = simp (length-append) (omega arith)
+    go false = simp (length-append) (omega arith)
