@@ -18,11 +18,14 @@ extern "C" {
    record, record_length: the record's bytes. Any bytes will do: a bad record prints its refusal, as "refused 4 at 0".
    print, print_length: an array for the print. It must not overlap the record. Neither pointer is null, also where its length is 0.
 
-   The print stands in the first bytes of the array, each line ended by a line feed, with no 0 at the end; the bytes after it stay as they were.
-   The answer is the print's length. It is 0 only if print_length is less than VEER_EH1_PRINT_SIZE: then nothing is played, and the array stays as it was.
+   If print_length is VEER_EH1_PRINT_SIZE or more, the answer is the print's length. The print stands in the first bytes of the array, each line ended by a
+   line feed, with no 0 at the end; the bytes after it stay as they were. If print_length is less, the answer is 0, nothing is played, and the array stays as it was.
 
-   The call keeps nothing between two calls and uses no heap, so it may run in several threads at once, each with its own array. It needs some 160 KB of stack.
-   That it answers so for every record is proved: the rules are in crates/playback/specs. */
+   This is proved for every record and every array: the answer is printedLength and the array printedInto of crates/playback/specs/Print.antt. That a print
+   is never empty is no law of its own; it is seen from the rule printOf, by which a print begins with "sources " or "refused ".
+
+   The call keeps nothing between two calls and uses no heap, so it may run in several threads at once, each with its own array. It needs some 72 KB of stack,
+   as measured with valgrind's massif; that is not proved. */
 size_t veer_eh1_play(const uint8_t *record, size_t record_length, uint8_t *print, size_t print_length);
 
 #ifdef __cplusplus

@@ -8,6 +8,7 @@ use native.Mathlib.Omega.{arith}
 use lib.ListN.{length, getD, take, drop, set, length-append}
 use lib.Seq.{drop-cons, set-append-seam, take-all}
 use lib.Dec.{ltb}
+use Rattle.buffers.specs.Filled.{filled}
 use borrow.Author.Tests.{ltb-true, ltb-false, le-ltb}
 use Rattle.nesting.specs.Claim as claim
 use Rattle.handlers.specs.declared.Machine.{Machine}
@@ -15,7 +16,7 @@ use Rattle.handlers.specs.declared.Outcome.{Outcome}
 use Rattle.handlers.specs.Machines.{powerOnOf}
 use Rattle.handlers.specs.Service.{stepOf}
 use Rattle.claims.specs.declared.Played.{Played}
-use Rattle.claims.specs.Play.{least, endOf, eachOf, answersOf, refusalsOf, filled, countOf, playedOf}
+use Rattle.claims.specs.Play.{least, endOf, eachOf, answersOf, refusalsOf, countOf, playedOf}
 use Rattle.claims.specs.Nested.{word, eh1, eventsOf, Claimed}
 use Rattle.claims.proofs.Laws.{demand-3}
 

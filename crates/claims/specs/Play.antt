@@ -34,10 +34,6 @@ answersOf = eachOf (λ (o : Outcome). o .answer)
 abbrev pub refusalsOf : Machine → List ℕ → List ℕ → List ℕ
 refusalsOf = eachOf (λ (o : Outcome). o .refusal)
 
--- Lent arrays are filled from their start; the places beyond stay as they were.
-abbrev pub filled : List ℕ → List ℕ → List ℕ
-filled new old = new ++ drop (length new) old
-
 -- As many events are played as heads, values, answers and refusals all have places.
 abbrev pub countOf : ℕ → ℕ → ℕ → ℕ → ℕ
 countOf heads values answers refusals = least (least heads values) (least answers refusals)

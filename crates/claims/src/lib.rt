@@ -2,8 +2,9 @@
 
 ghost use mathlib.Core.Path.{_≡_};
 ghost use lib.ListN.{length, take};
+ghost use Rattle.buffers.specs.Filled.{filled};
 ghost use Rattle.handlers.specs.Machines.{powerOnOf};
-ghost use Rattle.claims.specs.Play.{least, countOf, playedOf, answersOf, refusalsOf, filled};
+ghost use Rattle.claims.specs.Play.{least, countOf, playedOf, answersOf, refusalsOf};
 ghost use Rattle.claims.specs.Nested.{Claimed};
 use handlers::Machine;
 

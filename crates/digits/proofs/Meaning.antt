@@ -1,10 +1,9 @@
 -- The digits of a number say that number, and there are as few as can be.
 use Prim.Native.Nat.{ℕ, zero, suc, _+_, _*_, _-_, _/_, _%_, _^_, _≤_, _<_}
 use native.Mathlib.Omega.{arith}
-use native.Mathlib.Nat.{pow-suc, pow-zero, zero-add, zero-mul, one-mul, div-lt-iff-lt-mul, div-add-mod', mod-lt}
-use native.Mathlib.Numerals.{sub-one}
+use native.Mathlib.Nat.{pow-suc, pow-zero, one-mul, div-lt-iff-lt-mul, div-add-mod', mod-lt}
 use borrow.Author.Tests.{ltb-true, ltb-false, leb-false, lt-ltb, le-ltb}
-use mathlib.Core.Path.{_≡_, refl, sym, subst, _∙_, ap}
+use mathlib.Core.Path.{_≡_, refl, subst, _∙_, ap}
 use mathlib.Core.Bool.{Bool, true, false, _&&_, cond}
 use mathlib.Core.List.{List, [], _∷_, _++_}
 use lib.ListN.{length, length-append}

@@ -1,12 +1,13 @@
 -- A text put into a buffer piece by piece.
 use Prim.Native.Nat.{ℕ, _+_, _≤_}
 use native.Mathlib.Omega.{arith}
-use mathlib.Core.Path.{_≡_, refl, sym, subst, ap, _∙_}
-use mathlib.Core.List.{List, [], _∷_, _++_}
+use mathlib.Core.Path.{_≡_, sym, subst, ap, _∙_}
+use mathlib.Core.List.{List, _++_}
 use lib.ListN.{length, length-append}
 use lib.Seq.{sets, length-sets}
+use Rattle.buffers.proofs.Stores.{sets-then}
 use Rattle.digits.specs.Put.{putAt, placeAfter}
-use Rattle.digits.proofs.Stores.{fitting, sets-then}
+use Rattle.digits.proofs.Stores.{fitting}
 
 -- A text stands in the buffer from a place on; d is the buffer now, and a is the place after the text.
 abbrev pub Stands : List ℕ → ℕ → List ℕ → ℕ → List ℕ → Type 0

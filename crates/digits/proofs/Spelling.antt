@@ -3,15 +3,16 @@ use Prim.Native.Nat.{ℕ, zero, suc, _+_, _-_, _/_, _%_, _≤_, _<_}
 use native.Mathlib.Omega.{arith}
 use native.Mathlib.Nat.{pos-of-ne-zero, mod-lt}
 use borrow.Author.Tests.{ltb-true}
-use native.Mathlib.Numerals.{add-one, sub-one}
-use mathlib.Core.Path.{_≡_, refl, sym}
+use native.Mathlib.Numerals.{sub-one}
+use mathlib.Core.Path.{_≡_, refl}
 use mathlib.Core.Bool.{Bool, true, false, _&&_, cond}
 use mathlib.Core.List.{List, [], _∷_, _++_}
 use lib.ListN.{length, set, take, length-append}
 use lib.Seq.{sets, length-sets}
 use lib.Dec.{ltb, leb}
+use Rattle.buffers.proofs.Stores.{sets-then}
 use Rattle.digits.specs.Digits.{glyph, digitsTo}
-use Rattle.digits.proofs.Stores.{sets-then, take-sets}
+use Rattle.digits.proofs.Stores.{take-sets}
 
 and-left : (a b : Bool) → a && b ≡ true → a ≡ true
 and-left true b e = refl

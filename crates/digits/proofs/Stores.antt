@@ -1,22 +1,14 @@
 -- Stores of lists into a buffer.
-use Prim.Native.Nat.{ℕ, suc, _+_, _≤_, _<_}
-use native.Mathlib.Nat.{add-zero, zero-add, add-suc, suc-add}
+use Prim.Native.Nat.{ℕ, _+_, _≤_, _<_}
 use native.Mathlib.Numerals.{add-one}
 use mathlib.Core.Path.{_≡_, refl}
-use mathlib.Core.List.{List, [], _∷_, _++_}
+use mathlib.Core.List.{List, [], _∷_}
 use native.Mathlib.Omega.{arith}
-use lib.ListN.{length, getD, set, take, drop, length-append}
-use lib.Seq.{sets, sets-eq, length-sets, take-suc, take-all, length-take-le, take-append-seam}
+use lib.ListN.{length, getD, set, take, drop}
+use lib.Seq.{sets, sets-eq, take-suc, take-all, length-take-le, take-append-seam}
+use Rattle.buffers.proofs.Stores.{sets-then}
 use borrow.Author.Tests.{le-leb, lt-leb}
 use Rattle.digits.specs.Put.{putAt, placeAfter}
-
--- Stores that follow one another are stores of the lists joined.
-pub sets-append : (d : List ℕ) (at : ℕ) (xs ys : List ℕ) → sets (sets d at xs) (at + length xs) ys ≡ sets d at (xs ++ ys)
-sets-append d at [] ys = rw add-zero
-sets-append d at (x ∷ xs) ys = rw (add-suc, ← suc-add) (sets-append (set d at x) (suc at) xs ys)
-
-pub sets-then : (d : List ℕ) (at : ℕ) (xs ys : List ℕ) (m : ℕ) → m ≡ at + length xs → sets (sets d at xs) m ys ≡ sets d at (xs ++ ys)
-sets-then d at xs ys m e = rw e (sets-append d at xs ys)
 
 -- A turn of a loop that stores a text from a place on.
 pub copy-turn : (d₀ text : List ℕ) (at i : ℕ) {d : List ℕ} → i < length text → d ≡ sets d₀ at (take i text)
@@ -42,7 +34,3 @@ fitting buffer at text h = rw (le-leb (at + length text) (length buffer) h) (ref
 pub not-fitting : (buffer : List ℕ) (at : ℕ) (text : List ℕ) → length buffer < at + length text
     → (at ≡ placeAfter buffer at text) × (buffer ≡ putAt buffer at text)
 not-fitting buffer at text h = rw (lt-leb (at + length text) (length buffer) h) (refl, refl)
-
--- Stores from the start fill the buffer, and what is beyond stays.
-pub sets-start : (d xs : List ℕ) → length xs ≤ length d → sets d 0 xs ≡ xs ++ drop (length xs) d
-sets-start d xs h = let h′ : 0 + length xs ≤ length d = omega arith in rw (sets-eq xs d 0 h′, zero-add)

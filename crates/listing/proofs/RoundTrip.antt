@@ -8,12 +8,13 @@ use mathlib.Core.List.{List, [], _∷_, _++_, map, append-assoc}
 use borrow.Author.Tests.{lt-ltb, le-leb, lt-leb, eq-eqb, ne-eqb, ltb-true, ltb-false}
 use lib.Dec.{ltb, lit<, lit≤}
 use lib.ListN.{length, replicate, length-append, length-replicate}
+use Rattle.buffers.specs.Filled.{filled}
 use Rattle.digits.specs.Digits.{glyph, digitsTo, decimal, hexadecimal, valueAfter}
 use Rattle.digits.proofs.Spelling.{digits-most}
 use Rattle.digits.proofs.Meaning.{digits-length, digits-value, digit-of-glyph}
 use Rattle.digits.proofs.Signs.{Signs, none, more, digits-signs, digits-some}
 use Rattle.record.specs.Record.{board, countOf, sourcesOf, headsOf, valuesOf}
-use Rattle.record.specs.Answers.{accepted, filled}
+use Rattle.record.specs.Answers.{accepted}
 use Rattle.record.proofs.Words.{Below}
 use Rattle.record.proofs.Walk.{equally-many}
 use Rattle.record.proofs.Questions.{Readable, readable}

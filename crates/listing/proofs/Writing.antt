@@ -7,6 +7,8 @@ use mathlib.Core.List.{List, [], _∷_, _++_, append-assoc, append-nil}
 use lib.Dec.{lit<, lit≤}
 use lib.ListN.{length, getD, take, length-append}
 use lib.Seq.{length-sets, take-all, length-take-le}
+use Rattle.buffers.proofs.Stores.{sets-filled}
+use Rattle.buffers.specs.Filled.{filled}
 use Rattle.digits.specs.Digits.{decimal, hexadecimal}
 use Rattle.digits.specs.Put.{putAt, placeAfter}
 use Rattle.digits.proofs.Spelling.{digits-most}
@@ -16,10 +18,9 @@ use borrow.Author.Tests.{eq-eqb, ne-eqb}
 use Rattle.record.specs.declared.ReadAnswer.{ReadAnswer}
 use Rattle.record.specs.declared.ReadAnswer.the-variants as reading
 use Rattle.record.specs.Record.{board}
-use Rattle.record.specs.Answers.{accepted, refused, filled, readNumbers, readAnswer}
+use Rattle.record.specs.Answers.{accepted, refused, readNumbers, readAnswer}
 use Rattle.record.proofs.Answers.{read-not}
 use Rattle.record.proofs.Parts.{Parts}
-use Rattle.record.proofs.Words.{sets-filled}
 use Rattle.listing.specs.Lines.{lineFeed, colon}
 use Rattle.listing.specs.Writing.{ended, sourcesLine, eventLine, eventsText, listingOf, textOf}
 use Rattle.listing.specs.Answers.{asked, toTextAnswer, toTextBytes}

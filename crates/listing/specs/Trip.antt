@@ -3,7 +3,8 @@ use Prim.Native.Nat.{ℕ}
 use mathlib.Core.Path.{_≡_}
 use mathlib.Core.List.{List, [], _∷_}
 use lib.ListN.{length}
-use Rattle.record.specs.Answers.{accepted, filled}
+use Rattle.buffers.specs.Filled.{filled}
+use Rattle.record.specs.Answers.{accepted}
 use Rattle.listing.specs.Writing.{textOf}
 use Rattle.listing.specs.Answers.{told, asked, toRecordAnswer, toRecordBytes}
 

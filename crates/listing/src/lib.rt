@@ -5,13 +5,13 @@ ghost use mathlib.Core.List.{map};
 ghost use Prim.Native.Nat.{_+_, _*_, _≤_, _<_, min};
 ghost use lib.ListN.{length, take, drop};
 ghost use lib.Seq.{sets};
+ghost use Rattle.buffers.specs.Filled.{filled};
 ghost use Rattle.listing.specs.Lines.{lineFeed, before, after, linesIn};
 ghost use Rattle.listing.specs.Numbers.{digitOf, numberIn};
 ghost use Rattle.listing.specs.Reading.{headIn, valueIn, eventIn, firstBadFrom, firstBad, sourcesSaid, headsSaid, valuesSaid};
 ghost use Rattle.listing.specs.Answers.{recordNumbers, toRecordAnswer, toRecordBytes, lengthMade, textNumbers, toTextAnswer, toTextBytes, lengthTold};
 ghost use Rattle.listing.specs.Trip.{ComesBack};
 ghost use Rattle.listing.specs.Writing.{ended, eventLine, eventsText, listingOf};
-ghost use Rattle.record.specs.Answers.{filled};
 use record::ReadAnswer;
 use record::WriteAnswer;
 

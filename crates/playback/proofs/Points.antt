@@ -1,7 +1,7 @@
 -- Lines computed by the rules: those of document 01's listing, a margin below 0, and records that are refused.
 use mathlib.Core.Bool.{true, false}
 use mathlib.Core.Path.{_≡_, refl}
-use mathlib.Core.List.{List, _∷_, []}
+use mathlib.Core.List.{_∷_, []}
 use Rattle.digits.specs.Digits.{digitsTo}
 use Rattle.record.specs.Words.{wordsOf}
 use Rattle.record.specs.Questions.{readVerdict}

@@ -5,9 +5,9 @@ use native.Mathlib.Nat.{zero-add, add-zero, add-suc, suc-add}
 use native.Mathlib.Numerals.{add-one}
 use mathlib.Core.Path.{_≡_, refl, sym, ap, _∙_}
 use mathlib.Core.List.{List, [], _∷_, _++_, append-assoc, append-nil}
-use lib.ListN.{length, getD, take, drop, length-append}
+use lib.ListN.{length, getD, take, length-append}
 use lib.Seq.{sets, length-sets, take-all}
-use Rattle.digits.specs.Digits.{decimal, digitsTo}
+use Rattle.digits.specs.Digits.{decimal}
 use Rattle.digits.proofs.Meaning.{digits-length}
 use Rattle.digits.proofs.Pieces.{Stands, two, stands-as}
 use Rattle.event.specs.Event.{kindOf}

@@ -1,5 +1,5 @@
 -- A record that was read: its parts, and what is known of them.
-use Prim.Native.Nat.{ℕ, _+_, _≤_, _<_}
+use Prim.Native.Nat.{ℕ, _≤_, _<_}
 use native.Mathlib.Omega.{arith}
 use mathlib.Core.Bool.{Bool, true, false, cond}
 use mathlib.Core.Path.{_≡_, refl, sym, subst, ap, _∙_}
@@ -7,6 +7,7 @@ use mathlib.Core.List.{List}
 use lib.ListN.{length, getD, take, drop, length-append}
 use lib.Seq.{length-take-le}
 use lib.Dec.{ltb}
+use Rattle.buffers.specs.Filled.{filled}
 use borrow.Author.Tests.{eq-eqb, ne-eqb, ltb-true, ltb-false, lt-leb, le-leb}
 use Rattle.event.specs.Event.{kindOf, shapeOf}
 use Rattle.event.proofs.Laws.{shape-6}
@@ -21,7 +22,7 @@ use Rattle.record.proofs.Answers.{read-not}
 use Rattle.record.proofs.Parts.{read-parts}
 use Rattle.record.proofs.TooLong.{read-cut, long-refused}
 use Rattle.playback.specs.Text.{ascii}
-use Rattle.playback.specs.Print.{KnownKinds, asked, printOf, playedLines, refusedLine, filled, Counts, room, printedLength, printedInto}
+use Rattle.playback.specs.Print.{KnownKinds, asked, printOf, playedLines, refusedLine, Counts, room, printedLength, printedInto}
 
 -- An event that passes question 6 is of a kind 0..9.
 kind-known : (head value : ℕ) → shapeOf head value ≡ 0 → kindOf head < 10

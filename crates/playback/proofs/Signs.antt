@@ -1,13 +1,13 @@
 -- The sign of an i32, and how far it is from 0.
-use Prim.Native.Nat.{ℕ, zero, suc, _+_, _≤_, _<_, _^_}
-use mathlib.Core.Path.{_≡_, refl, sym, subst, ap, _∙_}
+use Prim.Native.Nat.{suc, _+_}
+use mathlib.Core.Path.{_≡_, refl, subst, ap, _∙_}
 use native.Mathlib.Nat.{zero-add}
 use borrow.Author.Tests.{ltb-true}
 use native.Mathlib.Omega.{arith}
-use mathlib.Core.Bool.{Bool, true, false}
+use mathlib.Core.Bool.{true, false}
 use lib.Dec.{T}
 use lib.IntN.{ℤ, pos, negsuc, _-ℤ_, natAbs}
-use lib.Signed.{ltZ, nonNeg, mag}
+use lib.Signed.{ltZ}
 use mir.Val.{Fits, SFits, toZ, ofZ}
 use mir.Syntax.{w32, w64}
 use mir.Facts.{toZ-ofZ}

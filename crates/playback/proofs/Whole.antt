@@ -2,8 +2,8 @@
 use Prim.Native.Nat.{ℕ, _+_, _*_, _≤_}
 use native.Mathlib.Omega.{arith}
 use mathlib.Core.Bool.{Bool, true, false}
-use mathlib.Core.Path.{_≡_, refl, sym, ap, _∙_}
-use mathlib.Core.List.{List, [], _∷_, _++_}
+use mathlib.Core.Path.{_≡_, _∙_}
+use mathlib.Core.List.{List, _++_}
 use lib.ListN.{length, drop, length-append}
 use lib.Seq.{length-sets}
 use Rattle.handlers.specs.Machines.{powerOnOf}
@@ -11,9 +11,10 @@ use Rattle.claims.specs.declared.Played.{Played}
 use Rattle.claims.specs.Play.{answersOf, refusalsOf}
 use Rattle.claims.proofs.Playing.{PlayedAll}
 use Rattle.playback.proofs.Printing.{lines-first}
-use Rattle.digits.proofs.Stores.{sets-start}
 use lib.IntN.{pos, natAbs}
 use lib.Signed.{ltZ}
+use Rattle.buffers.proofs.Stores.{sets-filled}
+use Rattle.buffers.specs.Filled.{filled}
 use Rattle.pic.specs.declared.Margin.{Margin}
 use Rattle.handlers.specs.declared.Machine.{Machine}
 use Rattle.handlers.specs.Service.{marginAnswer}
@@ -21,7 +22,7 @@ use Rattle.digits.specs.Digits.{decimal}
 use Rattle.digits.proofs.Spelling.{digits-most}
 use Rattle.digits.proofs.Pieces.{Stands, two, stands-as}
 use Rattle.playback.specs.Text.{ascii, minus}
-use Rattle.playback.specs.Print.{firstLine, eventLines, lastLine, endLine, refusedLine, playedLines, filled}
+use Rattle.playback.specs.Print.{firstLine, eventLines, lastLine, endLine, refusedLine, playedLines}
 
 twenty : (n : ℕ) → length (decimal n) ≤ 20
 twenty n = digits-most 10 1 20 n
@@ -86,11 +87,11 @@ played-print sources hs vs answers₀ refusals₀ out {p} {answers} {refusals} {
     let l : r ≡ length (playedLines sources hs vs) = omega (arith, stands .0) in
     let long : length (playedLines sources hs vs) ≤ length out =
     omega (arith, l, h, few, first .0, most, end .0, first-length sources (length hs), end-length (p .machine)) in
-    (l, stands .1 ∙ sets-start out (playedLines sources hs vs) long)
+    (l, stands .1 ∙ sets-filled out (playedLines sources hs vs) long)
 
 -- The whole print of a record that is refused.
 pub refused-print : (out : List ℕ) (refusal place : ℕ) {d : List ℕ} {r : ℕ} → 88143 ≤ length out → Stands out 0 (refusedLine refusal place) r d
     → (r ≡ length (refusedLine refusal place)) × (d ≡ filled (refusedLine refusal place) out)
 refused-print out refusal place h (e, f) =
     let long : length (refusedLine refusal place) ≤ length out = omega (arith, h, refused-length refusal place) in
-    (omega (arith, e), f ∙ sets-start out (refusedLine refusal place) long)
+    (omega (arith, e), f ∙ sets-filled out (refusedLine refusal place) long)

@@ -3,10 +3,11 @@ use Prim.Native.Nat.{ℕ, suc, _≤_, _<_}
 use mathlib.Core.Bool.{Bool, cond}
 use mathlib.Core.Path.{_≡_}
 use mathlib.Core.List.{List, [], _∷_, _++_}
-use lib.ListN.{length, getD, take, drop}
+use lib.ListN.{length, getD, take}
 use lib.Dec.{leb}
 use lib.IntN.{pos, natAbs}
 use lib.Signed.{ltZ}
+use Rattle.buffers.specs.Filled.{filled}
 use Rattle.digits.specs.Digits.{decimal}
 use Rattle.event.specs.Event.{kindOf}
 use Rattle.record.specs.declared.Verdict.{Verdict}
@@ -72,10 +73,6 @@ printOf bytes =
 -- The heads of an accepted record: the kind is 0..9.
 abbrev pub KnownKinds : List ℕ → Type 0
 KnownKinds heads = (j : ℕ) → j < length heads → kindOf (getD heads j 0) < 10
-
--- The print fills the lent buffer from its start; the bytes beyond stay as they were.
-abbrev pub filled : List ℕ → List ℕ → List ℕ
-filled new old = new ++ drop (length new) old
 
 -- So many bytes stand at the start of a buffer: what a caller that goes on with them needs to know.
 abbrev pub Counts : ℕ → List ℕ → Type 0

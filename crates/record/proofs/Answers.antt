@@ -7,6 +7,7 @@ use mathlib.Core.List.{List, [], _∷_}
 use borrow.Author.Tests.{eq-eqb, ne-eqb}
 use lib.Dec.{eqb}
 use lib.ListN.{length}
+use Rattle.buffers.specs.Filled.{filled}
 use Rattle.record.specs.declared.Limits.{Limits}
 use Rattle.record.specs.declared.Verdict.{Verdict}
 use Rattle.record.specs.declared.ReadAnswer.{ReadAnswer}
@@ -15,7 +16,7 @@ use Rattle.record.specs.declared.WriteAnswer.{WriteAnswer}
 use Rattle.record.specs.declared.WriteAnswer.the-variants as writing
 use Rattle.record.specs.Record.{recordOf, countOf, sourcesOf, wordsFrom}
 use Rattle.record.specs.Questions.{lengthOf, readVerdict, writeVerdict}
-use Rattle.record.specs.Answers.{Answer, accepted, refused, filled, readNumbers, readAnswer, readHeads, readValues, writeNumbers, writeAnswer, writtenBytes}
+use Rattle.record.specs.Answers.{Answer, accepted, refused, readNumbers, readAnswer, readHeads, readValues, writeNumbers, writeAnswer, writtenBytes}
 
 module _ (limits : Limits) (bytes heads values : List ℕ) {v : Verdict} (e : v ≡ readVerdict limits bytes (length heads) (length values)) where
   pub read-refused : (v .refusal ≡ 0 → ⊥)

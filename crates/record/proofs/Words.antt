@@ -7,10 +7,11 @@ use native.Mathlib.Omega.{arith}
 use mathlib.Core.List.{List, [], _∷_, _++_}
 use lib.ListN.{length, getD, set, take, drop, length-append, length-drop}
 use lib.Seq.{sets, sets-eq, take-suc, length-take-le, getD-take, getD-drop}
+use Rattle.buffers.proofs.Stores.{sets-append, sets-then, sets-filled}
+use Rattle.buffers.specs.Filled.{filled}
 use Rattle.record.specs.Words.{wordOf, wordsOf, bytesOf, bytesOfWords}
 use Rattle.record.specs.Record.{recordOf}
 use Rattle.record.specs.Questions.{lengthOf}
-use Rattle.record.specs.Answers.{filled}
 
 -- Every number of the list is below b.
 abbrev pub Below : ℕ → List ℕ → Type 0
@@ -99,18 +100,6 @@ bytes-of-words (a ∷ b ∷ c ∷ d ∷ rest) h e =
     let e′ : length rest % 4 ≡ 0 = omega arith in
     rw (bytes-of-words rest (λ i. h (suc (suc (suc (suc i))))) e′)
     (ap (λ (l : List ℕ). l ++ rest) (bytes-of-word a b c d (h 0) (h 1) (h 2) (h 3)))
-
--- Stores that follow one another are stores of the lists joined.
-pub sets-append : (d : List ℕ) (at : ℕ) (xs ys : List ℕ) → sets (sets d at xs) (at + length xs) ys ≡ sets d at (xs ++ ys)
-sets-append d at [] ys = rw add-zero
-sets-append d at (x ∷ xs) ys = rw (add-suc, ← suc-add) (sets-append (set d at x) (suc at) xs ys)
-
-pub sets-then : (d : List ℕ) (at : ℕ) (xs ys : List ℕ) (m : ℕ) → m ≡ at + length xs → sets (sets d at xs) m ys ≡ sets d at (xs ++ ys)
-sets-then d at xs ys m e = rw e (sets-append d at xs ys)
-
--- Stores from the start fill it.
-pub sets-filled : (d xs : List ℕ) → length xs ≤ length d → sets d 0 xs ≡ filled xs d
-sets-filled d xs h = let h′ : 0 + length xs ≤ length d = omega arith in rw (sets-eq xs d 0 h′, zero-add)
 
 -- Bytes enough for n words from word k on have them.
 pub length-words-from : (bytes : List ℕ) (k n : ℕ) → 4 * (k + n) ≤ length bytes → n ≤ length (drop k (wordsOf bytes))

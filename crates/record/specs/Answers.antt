@@ -4,6 +4,7 @@ use mathlib.Core.Bool.{Bool, cond}
 use mathlib.Core.List.{List, [], _∷_, _++_}
 use lib.ListN.{length, drop}
 use lib.Dec.{eqb}
+use Rattle.buffers.specs.Filled.{filled}
 use Rattle.record.specs.declared.Limits.{Limits}
 use Rattle.record.specs.declared.Verdict.{Verdict}
 use Rattle.record.specs.declared.ReadAnswer.{ReadAnswer}
@@ -44,10 +45,6 @@ allYes v = eqb (v .refusal) 0
 -- What is answered after the questions.
 abbrev pub answered : Verdict → List ℕ → Answer
 answered v values = cond (allYes v) (accepted values) (refused (v .refusal) (v .place))
-
--- What is lent is filled from its start; the places beyond stay as they were.
-abbrev pub filled : List ℕ → List ℕ → List ℕ
-filled new old = new ++ drop (length new) old
 
 -- Refused, all of it stays as it was.
 abbrev pub stored : Verdict → List ℕ → List ℕ → List ℕ

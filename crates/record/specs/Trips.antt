@@ -5,11 +5,12 @@ use Prim.Native.Nat.{ℕ, _≤_}
 use mathlib.Core.Path.{_≡_}
 use mathlib.Core.List.{List, [], _∷_}
 use lib.ListN.{length}
+use Rattle.buffers.specs.Filled.{filled}
 use Rattle.record.specs.declared.Limits.{Limits}
 use Rattle.record.specs.declared.Verdict.{Verdict}
 use Rattle.record.specs.Record.{recordOf, sourcesOf, headsOf, valuesOf}
 use Rattle.record.specs.Questions.{readVerdict, writeVerdict}
-use Rattle.record.specs.Answers.{Answer, accepted, refused, allYes, filled, readAnswer, readHeads, readValues, writeAnswer, writtenBytes}
+use Rattle.record.specs.Answers.{Answer, accepted, refused, allYes, readAnswer, readHeads, readValues, writeAnswer, writtenBytes}
 
 -- The second call's answer, unless the first refused.
 abbrev pub thenAnswer : Verdict → Answer → Answer

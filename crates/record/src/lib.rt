@@ -4,11 +4,12 @@ ghost use mathlib.Core.Path.{_≡_};
 ghost use Prim.Native.Nat.{_+_, _*_, _^_, _≤_, _<_};
 ghost use lib.ListN.{length, getD};
 ghost use lib.Seq.{sets};
+ghost use Rattle.buffers.specs.Filled.{filled};
 ghost use Rattle.record.specs.Words.{wordOf, wordsOf, bytesOf, bytesOfWords};
 ghost use Rattle.record.specs.Record.{board, recordOf, wordsFrom};
 ghost use Rattle.record.specs.Questions.{verdict, sourcesInRange, lengthOf, walk, readVerdict, writeVerdict};
 ghost use Rattle.record.specs.Trips.{writeReadAnswer, writeReadHeads, writeReadValues, ReadsBack, readWriteAnswer, readWriteBytes, WritesBack};
-ghost use Rattle.record.specs.Answers.{filled, readNumbers, readAnswer, readHeads, readValues, writeNumbers, writeAnswer, writtenBytes};
+ghost use Rattle.record.specs.Answers.{readNumbers, readAnswer, readHeads, readValues, writeNumbers, writeAnswer, writtenBytes};
 
 // What a record may hold at most: N, and events.
 pub struct Limits {

@@ -4,9 +4,10 @@ use Prim.Native.Nat.{ℕ, _≤_, _<_, _-_}
 use mathlib.Core.Path.{_≡_, refl}
 use native.Mathlib.Omega.{arith}
 use lib.ListN.{length, take}
+use Rattle.buffers.specs.Filled.{filled}
 use borrow.Author.Needs.{scaled-fits}
 use Rattle.handlers.specs.declared.Outcome.{Outcome}
-use Rattle.claims.specs.Play.{endOf, eachOf, answersOf, refusalsOf, filled}
+use Rattle.claims.specs.Play.{endOf, eachOf, answersOf, refusalsOf}
 use Rattle.claims.proofs.Playing.{Fits, count-fits, machine-turn, stored-turn, claimed}
 use borrow.Author.Needs.{needs}
 use Rattle.claims.proofs.play.Statement.{statement}

@@ -2,7 +2,7 @@ use borrow.Author.Needs.{needs}
 use mathlib.Core.Path.{_≡_, refl}
 use lib.ListN.{length}
 use native.Mathlib.Nat.{pos-of-ne-zero}
-use Rattle.digits.proofs.Spelling.{no-digit, one-digit, digits-most, spell-turn, low-digit, low-remainder, room-left}
+use Rattle.digits.proofs.Spelling.{no-digit, one-digit, spell-turn, low-digit, low-remainder, room-left}
 use Prim.Native.Nat.{ℕ, _<_, _≤_, _-_}
 use native.Mathlib.Omega.{arith}
 use borrow.Fn.Kinds.{In}
@@ -30,7 +30,6 @@ falling most t f e = let p : 0 < most = pos-of-ne-zero f in omega arith
 one-off : (most room : ℕ) → most ≤ room → most - 1 ≤ room
 one-off most room h = omega arith
 
--- src/lib.rt:37:9
 spell-returns : (t : ℕ) → spell-lts.Need-returns (
   glyph-reads.Asked,
   glyph-reads.Learnt,
@@ -41,7 +40,6 @@ spell-returns : (t : ℕ) → spell-lts.Need-returns (
 ) (spell-at t) spell.Post
 spell-returns t c = rw (no-digit (c .before .before .args .base) (c .before .before .args .least) (c .before .before .args .most) (c .before .before .args .n) (c .if1 .taken)) (refl, refl)
 
--- src/lib.rt:40:18
 spell-glyph-requires : (t : ℕ) → spell-lts.Need-glyph-requires (
   glyph-reads.Asked,
   glyph-reads.Learnt,
@@ -52,7 +50,6 @@ spell-glyph-requires : (t : ℕ) → spell-lts.Need-glyph-requires (
 ) (spell-at t) spell.Post
 spell-glyph-requires t c κs = low-digit (c .before .before .before .args .base) (c .before .before .before .args .least) (c .before .before .before .args .n) (c .if2 .taken) (c .before .before .before .pre .1 .1)
 
--- src/lib.rt:40:9
 spell-slice-write-out : (t : ℕ) → spell-lts.Need-slice-write-out (
   glyph-reads.Asked,
   glyph-reads.Learnt,
@@ -63,7 +60,6 @@ spell-slice-write-out : (t : ℕ) → spell-lts.Need-slice-write-out (
 ) (spell-at t) spell.Post
 spell-slice-write-out t c = search needs
 
--- src/lib.rt:41:9
 spell-same-length : (t : ℕ) → spell-lts.Need-same-length (
   glyph-reads.Asked,
   glyph-reads.Learnt,
@@ -74,7 +70,6 @@ spell-same-length : (t : ℕ) → spell-lts.Need-same-length (
 ) (spell-at t) spell.Post
 spell-same-length t c = search needs
 
--- src/lib.rt:41:9
 spell-returns-2 : (t : ℕ) → spell-lts.Need-returns-2 (
   glyph-reads.Asked,
   glyph-reads.Learnt,
@@ -85,7 +80,6 @@ spell-returns-2 : (t : ℕ) → spell-lts.Need-returns-2 (
 ) (spell-at t) spell.Post
 spell-returns-2 t c = rw (one-digit (c .before .before .before .before .args .base) (c .before .before .before .before .args .least) (c .before .before .before .before .args .most) (c .before .before .before .before .args .n) (pos-of-ne-zero (c .before .before .if1 .left)) (c .before .if2 .taken), c .glyph .ensures) (refl, refl)
 
--- src/lib.rt:43:30
 spell-one-less-requires : (t : ℕ) → spell-lts.Need-one-less-requires (
   glyph-reads.Asked,
   glyph-reads.Learnt,
@@ -96,7 +90,6 @@ spell-one-less-requires : (t : ℕ) → spell-lts.Need-one-less-requires (
 ) (spell-at t) spell.Post
 spell-one-less-requires t c κs = tt
 
--- src/lib.rt:43:47
 spell-sub-spell : (t : ℕ) → spell-lts.Need-sub-spell (
   glyph-reads.Asked,
   glyph-reads.Learnt,
@@ -107,7 +100,6 @@ spell-sub-spell : (t : ℕ) → spell-lts.Need-sub-spell (
 ) (spell-at t) spell.Post
 spell-sub-spell t c = search needs
 
--- src/lib.rt:43:57
 spell-div-spell : (t : ℕ) → spell-lts.Need-div-spell (
   glyph-reads.Asked,
   glyph-reads.Learnt,
@@ -118,7 +110,6 @@ spell-div-spell : (t : ℕ) → spell-lts.Need-div-spell (
 ) (spell-at t) spell.Post
 spell-div-spell t c = search needs
 
--- src/lib.rt:43:9
 spell-spell-requires : (t : ℕ) → spell-lts.Need-spell-requires (
   glyph-reads.Asked,
   glyph-reads.Learnt,
@@ -129,7 +120,6 @@ spell-spell-requires : (t : ℕ) → spell-lts.Need-spell-requires (
 ) (spell-at t) spell.Post
 spell-spell-requires t c κs = (falling (c .before .before .before .before .before .args .most) t (c .before .before .before .if1 .left) (c .before .before .before .before .before .pre .0), (c .before .before .before .before .before .pre .1 .0, c .before .before .before .before .before .pre .1 .1, one-off (c .before .before .before .before .before .args .most) (length (denote.Ref.now (c .before .before .before .before .before .args .out))) (c .before .before .before .before .before .pre .1 .2)))
 
--- src/lib.rt:44:20
 spell-rem-glyph : (t : ℕ) → spell-lts.Need-rem-glyph (
   glyph-reads.Asked,
   glyph-reads.Learnt,
@@ -140,7 +130,6 @@ spell-rem-glyph : (t : ℕ) → spell-lts.Need-rem-glyph (
 ) (spell-at t) spell.Post
 spell-rem-glyph t c = search needs
 
--- src/lib.rt:44:14
 spell-glyph-requires-2 : (t : ℕ) → spell-lts.Need-glyph-requires-2 (
   glyph-reads.Asked,
   glyph-reads.Learnt,
@@ -151,7 +140,6 @@ spell-glyph-requires-2 : (t : ℕ) → spell-lts.Need-glyph-requires-2 (
 ) (spell-at t) spell.Post
 spell-glyph-requires-2 t c κs = low-remainder (c .before .before .before .before .before .before .before .before .args .base) (c .before .before .before .before .before .before .before .before .args .n) (c .before .before .before .before .before .before .before .before .pre .1 .0) (c .before .before .before .before .before .before .before .before .pre .1 .1)
 
--- src/lib.rt:44:5
 spell-slice-write-out-2 : (t : ℕ) → spell-lts.Need-slice-write-out-2 (
   glyph-reads.Asked,
   glyph-reads.Learnt,
@@ -162,7 +150,6 @@ spell-slice-write-out-2 : (t : ℕ) → spell-lts.Need-slice-write-out-2 (
 ) (spell-at t) spell.Post
 spell-slice-write-out-2 t c = room-left (c .before .before .before .before .before .before .before .before .before .args .base) (c .before .before .before .before .one-less .result) (c .before .before .before .before .before .before .before .before .before .args .most) (c .before .before .before .before .before .before .before .before .before .args .n) (c .before .before .before .spell .result) (denote.Ref.now (c .before .before .before .before .before .before .before .before .before .args .out)) (c .before .before .before .before .before .before .before .if1 .left) (c .before .before .before .before .before .before .before .before .before .pre .1 .2) (c .before .before .before .spell .ensures .0) (c .before .before .before .spell .ensures .1)
 
--- src/lib.rt:45:5
 spell-add-result : (t : ℕ) → spell-lts.Need-add-result (
   glyph-reads.Asked,
   glyph-reads.Learnt,
@@ -173,7 +160,6 @@ spell-add-result : (t : ℕ) → spell-lts.Need-add-result (
 ) (spell-at t) spell.Post
 spell-add-result t c = let room : c .before .before .before .spell .result < length (c .before .before .before .spell .last .0) = room-left (c .before .before .before .before .before .before .before .before .before .args .base) (c .before .before .before .before .one-less .result) (c .before .before .before .before .before .before .before .before .before .args .most) (c .before .before .before .before .before .before .before .before .before .args .n) (c .before .before .before .spell .result) (denote.Ref.now (c .before .before .before .before .before .before .before .before .before .args .out)) (c .before .before .before .before .before .before .before .if1 .left) (c .before .before .before .before .before .before .before .before .before .pre .1 .2) (c .before .before .before .spell .ensures .0) (c .before .before .before .spell .ensures .1) in search needs
 
--- src/lib.rt:31:1
 spell-same-length-2 : (t : ℕ) → spell-lts.Need-same-length-2 (
   glyph-reads.Asked,
   glyph-reads.Learnt,
@@ -184,7 +170,6 @@ spell-same-length-2 : (t : ℕ) → spell-lts.Need-same-length-2 (
 ) (spell-at t) spell.Post
 spell-same-length-2 t c = search needs
 
--- src/lib.rt:31:1
 spell-returns-3 : (t : ℕ) → spell-lts.Need-returns-3 (
   glyph-reads.Asked,
   glyph-reads.Learnt,

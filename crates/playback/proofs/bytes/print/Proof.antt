@@ -2,15 +2,10 @@ use Rattle.playback.proofs.Reading.{print-counts}
 use borrow.Author.Needs.{needs}
 use Rattle.playback.proofs.bytes.print.Statement.{statement}
 use Rattle.playback.proofs.bytes.print.Tie as tie
-use Rattle.playback.proofs.bytes.print.Reads as reads
-use Rattle.playback.proofs.bytes.print.Lts as lts
-use Rattle.playback.proofs.bytes.print_to.Reads as print-to-reads
 
--- src/bytes.rt:124:5
 print-to-requires : tie.Need-print-to-requires
 print-to-requires c κs = search needs
 
--- src/bytes.rt:119:1
 returns : tie.Need-returns
 returns c = let told = c .print-to .ensures in (told .0, (told .1, print-counts (c .before .before .before .args .«record» .now) (c .before .before .before .args .out .now) (told .0) (told .1)))
 

@@ -2,23 +2,16 @@ use Rattle.playback.proofs.Reading.{no-room, with-room}
 use borrow.Author.Needs.{needs}
 use Rattle.playback.proofs.bytes.print_into.Statement.{statement}
 use Rattle.playback.proofs.bytes.print_into.Tie as tie
-use Rattle.playback.proofs.bytes.print_into.Reads as reads
-use Rattle.playback.proofs.bytes.print_into.Lts as lts
-use Rattle.playback.proofs.bytes.print_to.Reads as print-to-reads
 
--- src/bytes.rt:132:9
 returns : tie.Need-returns
 returns c = no-room _ _ (c .if1 .taken)
 
--- src/bytes.rt:134:5
 print-to-requires : tie.Need-print-to-requires
 print-to-requires c κs = search needs
 
--- src/bytes.rt:127:1
 same-length : tie.Need-same-length
 same-length c = search needs
 
--- src/bytes.rt:127:1
 returns-2 : tie.Need-returns-2
 returns-2 c = with-room _ _ (c .before .before .before .before .if1 .left) (c .before .before .print-to .ensures)
 

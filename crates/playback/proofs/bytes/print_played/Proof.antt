@@ -6,61 +6,43 @@ use Rattle.playback.proofs.Whole.{first-fits, events-fit, end-fits, pla
 use borrow.Author.Needs.{needs}
 use Rattle.playback.proofs.bytes.print_played.Statement.{statement}
 use Rattle.playback.proofs.bytes.print_played.Tie as tie
-use Rattle.playback.proofs.bytes.print_played.Reads as reads
-use Rattle.playback.proofs.bytes.print_played.Lts as lts
-use Rattle.claims.proofs.play.Reads as play-reads
-use Rattle.playback.proofs.lines.put_line.Reads as put-line-reads
-use Rattle.playback.proofs.bytes.put_end.Reads as put-end-reads
-use Rattle.playback.proofs.bytes.put_events.Reads as put-events-reads
 
--- src/print.rt:74:55
 slice-aggregate-play : tie.Need-slice-aggregate-play
 slice-aggregate-play c = search needs
 
--- src/print.rt:74:69
 slice-aggregate-play-2 : tie.Need-slice-aggregate-play-2
 slice-aggregate-play-2 c = search needs
 
--- src/print.rt:74:9
 play-requires : tie.Need-play-requires
 play-requires c κs = search needs
 
--- src/print.rt:78:9
 slice-aggregate-put-line : tie.Need-slice-aggregate-put-line
 slice-aggregate-put-line c = search needs
 
--- src/print.rt:80:9
 slice-aggregate-put-line-2 : tie.Need-slice-aggregate-put-line-2
 slice-aggregate-put-line-2 c = search needs
 
--- src/print.rt:75:9
 put-line-requires : tie.Need-put-line-requires
 unfolding ascii
 put-line-requires c κs = first-fits (length (denote.Ref.now (c .before .before .before .before .before .before .before .before .before .before .before .args .out))) (c .before .before .before .before .before .before .before .before .before .before .before .args .sources) (length (denote.Ref.now (c .before .before .before .before .before .before .before .before .before .before .before .args .heads))) (c .before .before .before .before .before .before .before .before .before .before .before .pre .3)
 
--- src/print.rt:83:39
 slice-aggregate-put-events : tie.Need-slice-aggregate-put-events
 slice-aggregate-put-events c = search needs
 
--- src/print.rt:83:49
 slice-aggregate-put-events-2 : tie.Need-slice-aggregate-put-events-2
 slice-aggregate-put-events-2 c = search needs
 
--- src/print.rt:83:9
 put-events-requires : tie.Need-put-events-requires
 unfolding ascii
 put-events-requires c κs = ((c .before .before .before .before .before .before .before .before .before .before .before .before .before .before .before .before .before .pre .0), search needs, search needs, events-fit (denote.Ref.now (c .before .before .before .before .before .before .before .before .before .before .before .before .before .before .before .before .before .args .out)) (c .before .before .before .before .before .before .before .before .before .before .before .before .before .before .before .before .before .args .sources) (length (denote.Ref.now (c .before .before .before .before .before .before .before .before .before .before .before .before .before .before .before .before .before .args .heads))) (length (denote.Ref.now (c .before .before .before .before .before .before .before .before .before .before .before .before .before .before .before .before .before .args .heads))) (c .before .before .before .before .before .before .before .before .before .before .before .before .before .before .before .before .before .pre .3) (c .before .before .before .before .before .before .before .before .before .before .before .before .before .before .before .before .before .pre .0) (c .before .before .before .before .before .put-line .ensures), (c .before .before .before .before .before .before .before .before .before .before .before .before .before .before .before .before .before .pre .2))
 
--- src/print.rt:85:5
 put-end-requires : tie.Need-put-end-requires
 unfolding ascii
 put-end-requires c κs = end-fits (denote.Ref.now (c .before .before .before .before .before .before .before .before .before .before .before .before .before .before .before .before .before .before .before .before .before .before .args .out)) (c .before .before .before .before .before .before .before .before .before .before .before .before .before .before .before .before .before .before .before .before .before .before .args .sources) (length (denote.Ref.now (c .before .before .before .before .before .before .before .before .before .before .before .before .before .before .before .before .before .before .before .before .before .before .args .heads))) (length (denote.Ref.now (c .before .before .before .before .before .before .before .before .before .before .before .before .before .before .before .before .before .before .before .before .before .before .args .heads))) (eventLines 0 (denote.Ref.now (c .before .before .before .before .before .before .before .before .before .before .before .before .before .before .before .before .before .before .before .before .before .before .args .heads)) (c .before .before .before .before .before .before .before .before .before .before .before .before .before .before .before .before .play .last .1 .1 .1 .0) (c .before .before .before .before .before .before .before .before .before .before .before .before .before .before .before .before .play .last .1 .1 .1 .1 .0)) (c .before .before .before .before .before .before .before .before .before .before .before .before .before .before .before .before .before .before .before .before .before .before .pre .3) (c .before .before .before .before .before .before .before .before .before .before .before .before .before .before .before .before .before .before .before .before .before .before .pre .0) (c .before .before .before .before .before .before .before .before .before .before .put-line .ensures) ((c .before .before .before .before .put-events .ensures .0), (c .before .before .before .before .put-events .ensures .1 .0)) (c .before .before .before .before .put-events .ensures .1 .1)
 
--- src/print.rt:67:1
 same-length : tie.Need-same-length
 same-length c = search needs
 
--- src/print.rt:67:1
 returns : tie.Need-returns
 unfolding ascii
 returns c = played-print (c .before .before .before .before .before .before .before .before .before .before .before .before .before .before .before .before .before .before .before .before .before .before .before .before .before .args .sources) (denote.Ref.now (c .before .before .before .before .before .before .before .before .before .before .before .before .before .before .before .before .before .before .before .before .before .before .before .before .before .args .heads)) (denote.Ref.now (c .before .before .before .before .before .before .before .before .before .before .before .before .before .before .before .before .before .before .before .before .before .before .before .before .before .args .values)) _ _ (denote.Ref.now (c .before .before .before .before .before .before .before .before .before .before .before .before .before .before .before .before .before .before .before .before .before .before .before .before .before .args .out)) (c .before .before .before .before .before .before .before .before .before .before .before .before .before .before .before .before .before .before .before .before .before .before .before .before .before .pre .3) (c .before .before .before .before .before .before .before .before .before .before .before .before .before .before .before .before .before .before .before .before .before .before .before .before .before .pre .0) (played-all (c .before .before .before .before .before .before .before .before .before .before .before .before .before .before .before .before .before .before .before .before .before .before .before .before .before .args .sources) (denote.Ref.now (c .before .before .before .before .before .before .before .before .before .before .before .before .before .before .before .before .before .before .before .before .before .before .before .before .before .args .heads)) (denote.Ref.now (c .before .before .before .before .before .before .before .before .before .before .before .before .before .before .before .before .before .before .before .before .before .before .before .before .before .args .values)) _ _ (c .before .before .before .before .before .before .before .before .before .before .before .before .before .before .before .before .before .before .before .before .before .before .before .before .before .pre .1) (c .before .before .before .before .before .before .before .before .before .before .before .before .before .before .before .before .before .before .before .before .before .before .before .before .before .pre .0) (c .before .before .before .before .before .before .before .before .before .before .before .before .before .before .before .before .before .before .before .before .before .before .before .before .before .pre .0) (c .before .before .before .before .before .before .before .before .before .before .before .before .before .before .before .before .before .before .before .play .ensures .0) (c .before .before .before .before .before .before .before .before .before .before .before .before .before .before .before .before .before .before .before .play .ensures .1 .0) (c .before .before .before .before .before .before .before .before .before .before .before .before .before .before .before .before .before .before .before .play .ensures .1 .1 .0)) (c .before .before .before .before .before .before .before .before .before .before .before .before .before .put-line .ensures) ((c .before .before .before .before .before .before .before .put-events .ensures .0), (c .before .before .before .before .before .before .before .put-events .ensures .1 .0)) (c .before .before .before .before .before .before .before .put-events .ensures .1 .1) (c .before .before .put-end .ensures)

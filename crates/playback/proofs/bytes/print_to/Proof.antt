@@ -8,85 +8,62 @@ use Rattle.playback.proofs.Whole.{refused-fits, refused-print}
 use borrow.Author.Needs.{needs}
 use Rattle.playback.proofs.bytes.print_to.Statement.{statement}
 use Rattle.playback.proofs.bytes.print_to.Tie as tie
-use Rattle.playback.proofs.bytes.print_to.Reads as reads
-use Rattle.playback.proofs.bytes.print_to.Lts as lts
-use Rattle.playback.proofs.bytes.print_played.Reads as print-played-reads
-use Rattle.playback.proofs.lines.put_line.Reads as put-line-reads
-use Rattle.record.proofs.read.Reads as read-reads
 
 zeros : length (replicate {A = ℕ} 4000 0) ≡ 4000
 zeros = length-replicate {A = ℕ} 4000 0
 
--- src/bytes.rt:99:36
 slice-aggregate-read : tie.Need-slice-aggregate-read
 slice-aggregate-read c = search needs
 
--- src/bytes.rt:99:48
 slice-aggregate-read-2 : tie.Need-slice-aggregate-read-2
 slice-aggregate-read-2 c = search needs
 
--- src/bytes.rt:99:9
 read-requires : tie.Need-read-requires
 read-requires c κs = search needs
 
--- src/bytes.rt:101:28
 enum-known-got : tie.Need-enum-known-got
 enum-known-got c = search needs
 
--- src/bytes.rt:104:13
 array-share-prefix-heads : tie.Need-array-share-prefix-heads
 array-share-prefix-heads c = fetched (denote.Ref.now (c .before .before .before .before .before .before .before .before .before .before .before .args .«record»)) (replicate 4000 0) (replicate 4000 0) zeros zeros ((c .before .before .before .before .before .before .read .kept .1 .0)) ((c .before .before .before .before .before .before .read .kept .1 .1 .0)) (c .before .before .before .before .before .before .read .ensures .0) (c .before .before .before .before .before .before .read .ensures .1 .0) (c .before .before .before .before .before .before .read .ensures .1 .1) (c .before .before .got .given .1) .in-heads
 
--- src/bytes.rt:104:13
 slice-aggregate-print-played : tie.Need-slice-aggregate-print-played
 slice-aggregate-print-played c = sym (length-take-le _ _ (fetched (denote.Ref.now (c .before .before .before .before .before .before .before .before .before .before .before .before .args .«record»)) (replicate 4000 0) (replicate 4000 0) zeros zeros ((c .before .before .before .before .before .before .before .read .kept .1 .0)) ((c .before .before .before .before .before .before .before .read .kept .1 .1 .0)) (c .before .before .before .before .before .before .before .read .ensures .0) (c .before .before .before .before .before .before .before .read .ensures .1 .0) (c .before .before .before .before .before .before .before .read .ensures .1 .1) (c .before .before .before .got .given .1) .in-heads))
 
--- src/bytes.rt:105:13
 array-share-prefix-values : tie.Need-array-share-prefix-values
 array-share-prefix-values c = fetched (denote.Ref.now (c .before .before .before .before .before .before .before .before .before .before .before .before .args .«record»)) (replicate 4000 0) (replicate 4000 0) zeros zeros ((c .before .before .before .before .before .before .before .read .kept .1 .0)) ((c .before .before .before .before .before .before .before .read .kept .1 .1 .0)) (c .before .before .before .before .before .before .before .read .ensures .0) (c .before .before .before .before .before .before .before .read .ensures .1 .0) (c .before .before .before .before .before .before .before .read .ensures .1 .1) (c .before .before .before .got .given .1) .in-values
 
--- src/bytes.rt:105:13
 slice-aggregate-print-played-2 : tie.Need-slice-aggregate-print-played-2
 slice-aggregate-print-played-2 c = sym (length-take-le _ _ (fetched (denote.Ref.now (c .before .before .before .before .before .before .before .before .before .before .before .before .before .args .«record»)) (replicate 4000 0) (replicate 4000 0) zeros zeros ((c .before .before .before .before .before .before .before .before .read .kept .1 .0)) ((c .before .before .before .before .before .before .before .before .read .kept .1 .1 .0)) (c .before .before .before .before .before .before .before .before .read .ensures .0) (c .before .before .before .before .before .before .before .before .read .ensures .1 .0) (c .before .before .before .before .before .before .before .before .read .ensures .1 .1) (c .before .before .before .before .got .given .1) .in-values))
 
--- src/bytes.rt:101:49
 print-played-requires : tie.Need-print-played-requires
 print-played-requires c κs = let f = fetched (denote.Ref.now (c .before .before .before .before .before .before .before .before .before .before .before .before .before .args .«record»)) (replicate 4000 0) (replicate 4000 0) zeros zeros ((c .before .before .before .before .before .before .before .before .read .kept .1 .0)) ((c .before .before .before .before .before .before .before .before .read .kept .1 .1 .0)) (c .before .before .before .before .before .before .before .before .read .ensures .0) (c .before .before .before .before .before .before .before .before .read .ensures .1 .0) (c .before .before .before .before .before .before .before .before .read .ensures .1 .1) (c .before .before .before .before .got .given .1) in rw (f .has-heads, f .has-values) (f .few, f .same, f .kinds, (c .before .before .before .before .before .before .before .before .before .before .before .before .before .pre))
 
--- src/bytes.rt:107:31
 enum-known-got-2 : tie.Need-enum-known-got-2
 enum-known-got-2 c = search needs
 
--- src/bytes.rt:110:13
 slice-aggregate-put-line : tie.Need-slice-aggregate-put-line
 slice-aggregate-put-line c = search needs
 
--- src/bytes.rt:111:13
 cast-put-line : tie.Need-cast-put-line
 cast-put-line c = search needs
 
--- src/bytes.rt:112:13
 slice-aggregate-put-line-2 : tie.Need-slice-aggregate-put-line-2
 slice-aggregate-put-line-2 c = search needs
 
--- src/bytes.rt:107:51
 put-line-requires : tie.Need-put-line-requires
 unfolding ascii
 put-line-requires c κs = refused-fits (length (denote.Ref.now (c .before .before .before .before .before .before .before .before .before .before .before .before .before .args .out))) (c .before .before .before .before .got2 .given .0 .0) (c .before .before .before .before .got2 .given .0 .1 .0) (c .before .before .before .before .before .before .before .before .before .before .before .before .before .pre)
 
--- src/bytes.rt:92:1
 same-length : tie.Need-same-length
 same-length c = search needs
 
--- src/bytes.rt:92:1
 returns : tie.Need-returns
 returns c = printed-as (c .before .before .before .before .before .before .before .before .before .before .before .before .before .before .before .before .args .out .now) _ _ _ _ (played-is (fetched (c .before .before .before .before .before .before .before .before .before .before .before .before .before .before .before .before .args .«record» .now) (replicate 4000 0) (replicate 4000 0) zeros zeros (c .before .before .before .before .before .before .before .before .before .before .before .read .kept .1 .0) (c .before .before .before .before .before .before .before .before .before .before .before .read .kept .1 .1 .0) (c .before .before .before .before .before .before .before .before .before .before .before .read .ensures .0) (c .before .before .before .before .before .before .before .before .before .before .before .read .ensures .1 .0) (c .before .before .before .before .before .before .before .before .before .before .before .read .ensures .1 .1) (c .before .before .before .before .before .before .before .got .given .1))) (c .before .before .print-played .ensures)
 
--- src/bytes.rt:92:1
 same-length-2 : tie.Need-same-length-2
 same-length-2 c = search needs
 
--- src/bytes.rt:92:1
 returns-2 : tie.Need-returns-2
 unfolding ascii
 returns-2 c = printed-as (c .before .before .before .before .before .before .before .before .before .before .before .before .before .before .before .before .args .out .now) _ _ _ _ (print-refused (c .before .before .before .before .before .before .before .before .before .before .before .before .before .before .before .before .args .«record» .now) (replicate 4000 0) (replicate 4000 0) zeros zeros (c .before .before .before .before .before .before .before .before .before .before .before .read .ensures .0) (c .before .before .before .before .before .before .before .got2 .given .1)) (refused-print (c .before .before .before .before .before .before .before .before .before .before .before .before .before .before .before .before .args .out .now) (c .before .before .before .before .before .before .before .got2 .given .0 .0) (c .before .before .before .before .before .before .before .got2 .given .0 .1 .0) (c .before .before .before .before .before .before .before .before .before .before .before .before .before .before .before .before .pre) (c .before .before .put-line .ensures))

@@ -10,38 +10,25 @@ use lib.Signed.{ltZ}
 use borrow.Author.Needs.{needs}
 use Rattle.playback.proofs.bytes.put_end.Statement.{statement}
 use Rattle.playback.proofs.bytes.put_end.Tie as tie
-use Rattle.playback.proofs.bytes.put_end.Reads as reads
-use Rattle.playback.proofs.bytes.put_end.Lts as lts
-use Rattle.handlers.proofs.Machine.margin.Reads as margin-reads
-use Rattle.playback.proofs.lines.is_below.Reads as is-below-reads
-use Rattle.playback.proofs.lines.put_last.Reads as put-last-reads
-use Rattle.playback.proofs.lines.size.Reads as size-reads
 
--- src/print.rt:54:9
 margin-requires : tie.Need-margin-requires
 margin-requires c κs = search needs
 
--- src/print.rt:55:9
 is-below-requires : tie.Need-is-below-requires
 is-below-requires c κs = search needs
 
--- src/print.rt:56:9
 size-requires : tie.Need-size-requires
 size-requires c κs = search needs
 
--- src/print.rt:61:9
 cast-put-last : tie.Need-cast-put-last
 cast-put-last c = search needs
 
--- src/print.rt:57:5
 put-last-requires : tie.Need-put-last-requires
 put-last-requires c κs = last-fits (length (denote.Ref.now (c .before .before .before .before .before .before .before .before .args .out))) (c .before .before .before .before .before .before .before .before .args .at) ((c .before .before .before .before .before .before .before .before .args .m) .depth) ((c .before .before .before .before .before .before .before .before .args .m) .controller .current .0) (c .before .before .before .before .is-below .result) (c .before .before .size .result) (c .before .before .before .before .before .before .before .before .pre)
 
--- src/print.rt:49:1
 same-length : tie.Need-same-length
 same-length c = search needs
 
--- src/print.rt:49:1
 -- The margin as it was passed on.
 passed : (c : tie.After-size) → toZ w32 (ofZ w32 (c .before .before .before .before .margin .result .margin)) ≡ c .before .before .before .before .margin .result .margin
 passed c = toZ-ofZ {w = w32} {z = c .before .before .before .before .margin .result .margin} (search needs)

@@ -5,10 +5,6 @@ use lib.ListN.{length}
 use Rattle.playback.proofs.Printing.{Printed, none-printed, line-room, one-printed, all-printed}
 use Rattle.playback.proofs.bytes.put_events.Statement.{statement}
 use Rattle.playback.proofs.bytes.put_events.Tie as tie
-use Rattle.playback.proofs.bytes.put_events.Reads as reads
-use Rattle.playback.proofs.bytes.put_events.Lts as lts
-use Rattle.event.proofs.kind.Reads as kind-reads
-use Rattle.playback.proofs.lines.put_event.Reads as put-event-reads
 
 wider : (x : ℕ) → x < 2 ^ 32 → x < 2 ^ 64
 wider x h = omega (arith, h)
@@ -22,67 +18,51 @@ Inv-loop out₀ at heads answers refusals next₀ i₀ out next i = Printed out�
 abbrev μ-loop : tie.MeasureT-loop
 μ-loop out₀ at heads answers refusals next₀ i₀ out next i = length heads - i
 
--- src/print.rt:33:5
 loop-holds : tie.Need-loop-holds Inv-loop μ-loop
 loop-holds c = none-printed _ _ _ _ _ (c .before .before .before .before .pre)
 
--- src/print.rt:38:25
 mul-kind : tie.Need-mul-kind Inv-loop μ-loop
 mul-kind c = search needs
 
--- src/print.rt:38:25
 shared-slice-read-kind : tie.Need-shared-slice-read-kind Inv-loop μ-loop
 shared-slice-read-kind c = search needs
 
--- src/print.rt:38:13
 kind-requires : tie.Need-kind-requires Inv-loop μ-loop
 kind-requires c κs = search needs
 
--- src/print.rt:38:13
 cast-put-event : tie.Need-cast-put-event Inv-loop μ-loop
 cast-put-event c = search needs
 
--- src/print.rt:39:13
 mul-put-event : tie.Need-mul-put-event Inv-loop μ-loop
 mul-put-event c = search needs
 
--- src/print.rt:39:13
 shared-slice-read-put-event : tie.Need-shared-slice-read-put-event Inv-loop μ-loop
 shared-slice-read-put-event c = search needs
 
--- src/print.rt:39:13
 cast-put-event-2 : tie.Need-cast-put-event-2 Inv-loop μ-loop
 cast-put-event-2 c = record { fits = wider _ (c .shared-slice-known5 .given (c .before .before .before .before .before .loop .i) .fits) }
 
--- src/print.rt:40:13
 shared-slice-read-put-event-2 : tie.Need-shared-slice-read-put-event-2 Inv-loop μ-loop
 shared-slice-read-put-event-2 c = search needs
 
--- src/print.rt:40:13
 cast-put-event-3 : tie.Need-cast-put-event-3 Inv-loop μ-loop
 cast-put-event-3 c = record { fits = small _ (c .shared-slice-known6 .given (c .before .before .before .before .before .before .loop .i) .fits) }
 
--- src/print.rt:34:9
 put-event-requires : tie.Need-put-event-requires Inv-loop μ-loop
 put-event-requires c κs = line-room (c .before .before .before .before .before .before .loop .inv) (c .before .before .before .before .before .loop-test .taken) (c .before .before .kind .ensures) ((c .before .shared-slice-known5 .given) (c .before .before .before .before .before .before .loop .i) .fits) ((c .shared-slice-known6 .given) (c .before .before .before .before .before .before .loop .i) .fits)
 
--- src/print.rt:42:9
 add-i : tie.Need-add-i Inv-loop μ-loop
 add-i c = search needs
 
--- src/print.rt:33:5
 loop-less : tie.Need-loop-less Inv-loop μ-loop
 loop-less c = search needs
 
--- src/print.rt:33:5
 loop-again : tie.Need-loop-again Inv-loop μ-loop
 loop-again c = one-printed (c .before .before .before .before .before .before .before .before .before .loop .inv) (c .before .before .before .before .before .before .before .before .loop-test .taken) (c .before .before .before .before .before .kind .ensures) ((c .before .before .before .before .shared-slice-known5 .given) (c .before .before .before .before .before .before .before .before .before .loop .i) .fits) ((c .before .before .before .shared-slice-known6 .given) (c .before .before .before .before .before .before .before .before .before .loop .i) .fits) (c .before .before .put-event .ensures)
 
--- src/print.rt:19:1
 same-length : tie.Need-same-length Inv-loop μ-loop
 same-length c = search needs
 
--- src/print.rt:19:1
 returns : tie.Need-returns Inv-loop μ-loop
 returns c = all-printed (c .before .loop .inv) (c .loop-test .left)
 

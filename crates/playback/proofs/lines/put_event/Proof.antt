@@ -7,42 +7,30 @@ use Rattle.playback.proofs.Rows.{five-behind, event-room}
 use borrow.Author.Needs.{needs}
 use Rattle.playback.proofs.lines.put_event.Statement.{statement}
 use Rattle.playback.proofs.lines.put_event.Tie as tie
-use Rattle.playback.proofs.lines.put_event.Reads as reads
-use Rattle.playback.proofs.lines.put_event.Lts as lts
-use Rattle.playback.proofs.lines.put_line.Reads as put-line-reads
-use Rattle.playback.proofs.lines.put_two.Reads as put-two-reads
 
--- src/lines.rt:50:30
 slice-aggregate-put-two : tie.Need-slice-aggregate-put-two
 slice-aggregate-put-two c = search needs
 
--- src/lines.rt:50:42
 slice-aggregate-put-two-2 : tie.Need-slice-aggregate-put-two-2
 slice-aggregate-put-two-2 c = search needs
 
--- src/lines.rt:50:9
 put-two-requires : tie.Need-put-two-requires
 unfolding ascii
 put-two-requires c κs = room-first (length (denote.Ref.now (c .before .before .before .before .args .out))) (c .before .before .before .before .args .at) (ascii "" ++ (decimal (c .before .before .before .before .args .index)) ++ ascii " " ++ (decimal (c .before .before .before .before .args .kind))) (ascii " " ++ (decimal (c .before .before .before .before .args .answer)) ++ ascii " " ++ (decimal (c .before .before .before .before .args .refusal)) ++ ascii "\n") (event-room (length (denote.Ref.now (c .before .before .before .before .args .out))) (c .before .before .before .before .args .at) (decimal (c .before .before .before .before .args .index)) (decimal (c .before .before .before .before .args .kind)) (decimal (c .before .before .before .before .args .answer)) (decimal (c .before .before .before .before .args .refusal)) (c .before .before .before .before .pre))
 
--- src/lines.rt:51:22
 slice-aggregate-put-line : tie.Need-slice-aggregate-put-line
 slice-aggregate-put-line c = search needs
 
--- src/lines.rt:51:36
 slice-aggregate-put-line-2 : tie.Need-slice-aggregate-put-line-2
 slice-aggregate-put-line-2 c = search needs
 
--- src/lines.rt:51:5
 put-line-requires : tie.Need-put-line-requires
 unfolding ascii
 put-line-requires c κs = room-second (denote.Ref.now (c .before .before .before .before .before .before .before .before .before .before .args .out)) (c .before .before .before .before .before .before .before .before .before .before .args .at) (ascii "" ++ (decimal (c .before .before .before .before .before .before .before .before .before .before .args .index)) ++ ascii " " ++ (decimal (c .before .before .before .before .before .before .before .before .before .before .args .kind))) (ascii " " ++ (decimal (c .before .before .before .before .before .before .before .before .before .before .args .answer)) ++ ascii " " ++ (decimal (c .before .before .before .before .before .before .before .before .before .before .args .refusal)) ++ ascii "\n") (event-room (length (denote.Ref.now (c .before .before .before .before .before .before .before .before .before .before .args .out))) (c .before .before .before .before .before .before .before .before .before .before .args .at) (decimal (c .before .before .before .before .before .before .before .before .before .before .args .index)) (decimal (c .before .before .before .before .before .before .before .before .before .before .args .kind)) (decimal (c .before .before .before .before .before .before .before .before .before .before .args .answer)) (decimal (c .before .before .before .before .before .before .before .before .before .before .args .refusal)) (c .before .before .before .before .before .before .before .before .before .before .pre)) (c .before .before .before .before .before .put-two .ensures)
 
--- src/lines.rt:38:1
 same-length : tie.Need-same-length
 same-length c = search needs
 
--- src/lines.rt:38:1
 returns : tie.Need-returns
 unfolding ascii
 returns c = rw (← five-behind (ascii "" ++ (decimal (c .before .before .before .before .before .before .before .before .before .before .before .before .before .args .index)) ++ ascii " " ++ (decimal (c .before .before .before .before .before .before .before .before .before .before .before .before .before .args .kind))) (ascii " ") (decimal (c .before .before .before .before .before .before .before .before .before .before .before .before .before .args .answer)) (ascii " ") (decimal (c .before .before .before .before .before .before .before .before .before .before .before .before .before .args .refusal)) (ascii "\n")) (two (denote.Ref.now (c .before .before .before .before .before .before .before .before .before .before .before .before .before .args .out)) (c .before .before .before .before .before .before .before .before .before .before .before .before .before .args .at) (ascii "" ++ (decimal (c .before .before .before .before .before .before .before .before .before .before .before .before .before .args .index)) ++ ascii " " ++ (decimal (c .before .before .before .before .before .before .before .before .before .before .before .before .before .args .kind))) (ascii " " ++ (decimal (c .before .before .before .before .before .before .before .before .before .before .before .before .before .args .answer)) ++ ascii " " ++ (decimal (c .before .before .before .before .before .before .before .before .before .before .before .before .before .args .refusal)) ++ ascii "\n") (c .before .before .before .before .before .before .before .before .put-two .ensures) (c .before .before .put-line .ensures))

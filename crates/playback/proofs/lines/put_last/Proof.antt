@@ -7,34 +7,24 @@ use Rattle.playback.proofs.Rows.{three-behind, last-room}
 use borrow.Author.Needs.{needs}
 use Rattle.playback.proofs.lines.put_last.Statement.{statement}
 use Rattle.playback.proofs.lines.put_last.Tie as tie
-use Rattle.playback.proofs.lines.put_last.Reads as reads
-use Rattle.playback.proofs.lines.put_last.Lts as lts
-use Rattle.playback.proofs.lines.put_margin.Reads as put-margin-reads
-use Rattle.playback.proofs.lines.put_two.Reads as put-two-reads
 
--- src/lines.rt:91:30
 slice-aggregate-put-two : tie.Need-slice-aggregate-put-two
 slice-aggregate-put-two c = search needs
 
--- src/lines.rt:91:51
 slice-aggregate-put-two-2 : tie.Need-slice-aggregate-put-two-2
 slice-aggregate-put-two-2 c = search needs
 
--- src/lines.rt:91:9
 put-two-requires : tie.Need-put-two-requires
 unfolding ascii
 put-two-requires c κs = room-first (length (denote.Ref.now (c .before .before .before .before .args .out))) (c .before .before .before .before .args .at) (ascii "end open " ++ (decimal (c .before .before .before .before .args .depth)) ++ ascii " level " ++ (decimal (c .before .before .before .before .args .level))) (ascii " margin " ++ (signed (c .before .before .before .before .args .below) (c .before .before .before .before .args .size)) ++ ascii "\n") (last-room (length (denote.Ref.now (c .before .before .before .before .args .out))) (c .before .before .before .before .args .at) (decimal (c .before .before .before .before .args .depth)) (decimal (c .before .before .before .before .args .level)) (signed (c .before .before .before .before .args .below) (c .before .before .before .before .args .size)) (c .before .before .before .before .pre))
 
--- src/lines.rt:92:5
 put-margin-requires : tie.Need-put-margin-requires
 unfolding ascii
 put-margin-requires c κs = room-second (denote.Ref.now (c .before .before .before .before .before .before .before .before .args .out)) (c .before .before .before .before .before .before .before .before .args .at) (ascii "end open " ++ (decimal (c .before .before .before .before .before .before .before .before .args .depth)) ++ ascii " level " ++ (decimal (c .before .before .before .before .before .before .before .before .args .level))) (ascii " margin " ++ (signed (c .before .before .before .before .before .before .before .before .args .below) (c .before .before .before .before .before .before .before .before .args .size)) ++ ascii "\n") (last-room (length (denote.Ref.now (c .before .before .before .before .before .before .before .before .args .out))) (c .before .before .before .before .before .before .before .before .args .at) (decimal (c .before .before .before .before .before .before .before .before .args .depth)) (decimal (c .before .before .before .before .before .before .before .before .args .level)) (signed (c .before .before .before .before .before .before .before .before .args .below) (c .before .before .before .before .before .before .before .before .args .size)) (c .before .before .before .before .before .before .before .before .pre)) (c .before .before .before .put-two .ensures)
 
--- src/lines.rt:79:1
 same-length : tie.Need-same-length
 same-length c = search needs
 
--- src/lines.rt:79:1
 returns : tie.Need-returns
 unfolding ascii
 returns c = stands-as (denote.Ref.now (c .before .before .before .before .before .before .before .before .before .before .before .args .out)) (c .before .before .before .before .before .before .before .before .before .before .before .args .at) (three-behind (ascii "end open " ++ (decimal (c .before .before .before .before .before .before .before .before .before .before .before .args .depth)) ++ ascii " level " ++ (decimal (c .before .before .before .before .before .before .before .before .before .before .before .args .level))) (ascii " margin ") (signed (c .before .before .before .before .before .before .before .before .before .before .before .args .below) (c .before .before .before .before .before .before .before .before .before .before .before .args .size)) (ascii "\n")) (two (denote.Ref.now (c .before .before .before .before .before .before .before .before .before .before .before .args .out)) (c .before .before .before .before .before .before .before .before .before .before .before .args .at) (ascii "end open " ++ (decimal (c .before .before .before .before .before .before .before .before .before .before .before .args .depth)) ++ ascii " level " ++ (decimal (c .before .before .before .before .before .before .before .before .before .before .before .args .level))) (ascii " margin " ++ (signed (c .before .before .before .before .before .before .before .before .before .before .before .args .below) (c .before .before .before .before .before .before .before .before .before .before .before .args .size)) ++ ascii "\n") (c .before .before .before .before .before .before .put-two .ensures) (c .before .before .put-margin .ensures))

@@ -7,41 +7,28 @@ use Rattle.playback.proofs.Rows.{four-margin, margin-room}
 use borrow.Author.Needs.{needs}
 use Rattle.playback.proofs.lines.put_margin.Statement.{statement}
 use Rattle.playback.proofs.lines.put_margin.Tie as tie
-use Rattle.playback.proofs.lines.put_margin.Reads as reads
-use Rattle.playback.proofs.lines.put_margin.Lts as lts
-use Rattle.digits.proofs.put_decimal.Reads as put-decimal-reads
-use Rattle.digits.proofs.put_text.Reads as put-text-reads
-use Rattle.playback.proofs.lines.put_sign.Reads as put-sign-reads
 
--- src/lines.rt:72:31
 slice-aggregate-put-text : tie.Need-slice-aggregate-put-text
 slice-aggregate-put-text c = search needs
 
--- src/lines.rt:72:9
 put-text-requires : tie.Need-put-text-requires
 put-text-requires c κs = search needs
 
--- src/lines.rt:73:9
 put-sign-requires : tie.Need-put-sign-requires
 put-sign-requires c κs = search needs
 
--- src/lines.rt:74:9
 put-decimal-requires : tie.Need-put-decimal-requires
 put-decimal-requires c κs = search needs
 
--- src/lines.rt:75:22
 slice-aggregate-put-text-2 : tie.Need-slice-aggregate-put-text-2
 slice-aggregate-put-text-2 c = search needs
 
--- src/lines.rt:75:5
 put-text-requires-2 : tie.Need-put-text-requires-2
 put-text-requires-2 c κs = search needs
 
--- src/lines.rt:67:1
 same-length : tie.Need-same-length
 same-length c = search needs
 
--- src/lines.rt:67:1
 returns : tie.Need-returns
 unfolding ascii
 returns c = stands-as (denote.Ref.now (c .before .before .before .before .before .before .before .before .before .before .before .before .before .before .before .before .before .before .before .args .out)) (c .before .before .before .before .before .before .before .before .before .before .before .before .before .before .before .before .before .before .before .args .at) (sym (four-margin (ascii " margin ") (minus (c .before .before .before .before .before .before .before .before .before .before .before .before .before .before .before .before .before .before .before .args .below)) (decimal (c .before .before .before .before .before .before .before .before .before .before .before .before .before .before .before .before .before .before .before .args .size)) (ascii "\n"))) (four (denote.Ref.now (c .before .before .before .before .before .before .before .before .before .before .before .before .before .before .before .before .before .before .before .args .out)) (c .before .before .before .before .before .before .before .before .before .before .before .before .before .before .before .before .before .before .before .args .at) (ascii " margin ") (minus (c .before .before .before .before .before .before .before .before .before .before .before .before .before .before .before .before .before .before .before .args .below)) (decimal (c .before .before .before .before .before .before .before .before .before .before .before .before .before .before .before .before .before .before .before .args .size)) (ascii "\n") (margin-room (length (denote.Ref.now (c .before .before .before .before .before .before .before .before .before .before .before .before .before .before .before .before .before .before .before .args .out))) (c .before .before .before .before .before .before .before .before .before .before .before .before .before .before .before .before .before .before .before .args .at) (ascii " margin ") (minus (c .before .before .before .before .before .before .before .before .before .before .before .before .before .before .before .before .before .before .before .args .below)) (decimal (c .before .before .before .before .before .before .before .before .before .before .before .before .before .before .before .before .before .before .before .args .size)) (ascii "\n") (c .before .before .before .before .before .before .before .before .before .before .before .before .before .before .before .before .before .before .before .pre)) (c .before .before .before .before .before .before .before .before .before .before .before .before .before .before .before .put-text .ensures .0) (c .before .before .before .before .before .before .before .before .before .before .before .before .before .before .before .put-text .ensures .1) (c .before .before .before .before .before .before .before .before .before .before .before .put-sign .ensures .0) (c .before .before .before .before .before .before .before .before .before .before .before .put-sign .ensures .1) (c .before .before .before .before .before .before .before .put-decimal .ensures .0) (c .before .before .before .before .before .before .before .put-decimal .ensures .1) (c .before .before .put-text2 .ensures .0) (c .before .before .put-text2 .ensures .1))

@@ -1,30 +1,22 @@
 use Rattle.playback.proofs.Signs.{widened-fits, turned, straight, size-fits}
 use Rattle.playback.proofs.lines.size.Statement.{statement}
 use Rattle.playback.proofs.lines.size.Tie as tie
-use Rattle.playback.proofs.lines.size.Reads as reads
-use Rattle.playback.proofs.lines.size.Lts as lts
 
--- src/lines.rt:70:16
 cast-wide : tie.Need-cast-wide
 cast-wide c = widened-fits (c .args .z) (c .fits .z)
 
--- src/lines.rt:72:10
 sub-result : tie.Need-sub-result
 sub-result c = turned (c .before .args .z) (c .before .fits .z) (c .if1 .taken) .fits
 
--- src/lines.rt:72:9
 cast-result : tie.Need-cast-result
 cast-result c = rw (turned (c .before .args .z) (c .before .fits .z) (c .if1 .taken) .is) (tt, size-fits (c .before .args .z) (c .before .fits .z))
 
--- src/lines.rt:74:9
 cast-result-2 : tie.Need-cast-result-2
 cast-result-2 c = rw (straight (c .before .args .z) (c .before .fits .z) (c .if1 .left)) (tt, size-fits (c .before .args .z) (c .before .fits .z))
 
--- src/lines.rt:67:1
 returns : tie.Need-returns
 returns c = rw (turned (c .before .args .z) (c .before .fits .z) (c .if1 .taken) .is)
 
--- src/lines.rt:67:1
 returns-2 : tie.Need-returns-2
 returns-2 c = rw (straight (c .before .args .z) (c .before .fits .z) (c .if1 .left))
 

@@ -1,0 +1,1 @@
+// Lent buffers: rules and laws only, no code.
