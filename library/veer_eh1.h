@@ -21,8 +21,8 @@ extern "C" {
    If print_length is VEER_EH1_PRINT_SIZE or more, the answer is the print's length. The print stands in the first bytes of the array, each line ended by a
    line feed, with no 0 at the end; the bytes after it stay as they were. If print_length is less, the answer is 0, nothing is played, and the array stays as it was.
 
-   This is proved for every record and every array: the answer is printedLength and the array printedInto of crates/playback/specs/Print.antt. That a print
-   is never empty is no law of its own; it is seen from the rule printOf, by which a print begins with "sources " or "refused ".
+   This is proved for every record and every array: the answer is printedLength and the array printedInto of crates/playback/specs/Print.antt. No print is
+   empty (print-some, crates/playback/proofs/Reading.antt), so an answer of 0 says that the array is too short.
 
    The call keeps nothing between two calls and uses no heap, so it may run in several threads at once, each with its own array. It needs some 72 KB of stack,
    as measured with valgrind's massif; that is not proved. */
