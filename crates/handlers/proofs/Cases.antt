@@ -9,6 +9,8 @@ use lib.Signed.{ltZ}
 use borrow.Author.Tests.{eqb-true, eqb-false}
 use Rattle.event.specs.Event.{kindOf, addressOf, shapeOf}
 use Rattle.pic.specs.Calls as calls
+use Rattle.registers.specs.Calls as registers
+use Rattle.csrs.specs.Calls as csrs
 use Rattle.handlers.specs.declared.Machine.{Machine}
 use Rattle.handlers.specs.declared.Outcome.{Outcome}
 use Rattle.handlers.specs.Fields.{withMask}
@@ -18,11 +20,11 @@ use Rattle.handlers.specs.Service.{accepted, refused, ask, lifted, mayWr
 -- The ways of an event of value v on the machine m, by its kind. A controller's own event may still be refused by the controller.
 pub record Cases (m : Machine) (v : ℕ) (P : ℕ → Outcome → Type 0) : Type 0 where
   pub refuses : (k q : ℕ) → (q ≡ 0 → ⊥) → P k (refused m q)
-  pub samples : (x : ℕ) → P 0 (lifted m (calls.sampleOf (m .controller) x v))
-  pub loads : (o : ℕ) → P 1 (lifted m (calls.loadOf (m .controller) o))
-  pub stores : (o : ℕ) → P 2 (lifted m (calls.storeOf (m .controller) o v))
-  pub reads : (a : ℕ) → P 3 (lifted m (calls.csrReadOf (m .controller) a))
-  pub writes : (a : ℕ) → mayWrite m a ≡ true → P 4 (lifted m (calls.csrWriteOf (m .controller) a v))
+  pub samples : (x : ℕ) → P 0 (lifted m (registers.sampleOf (m .controller) x v))
+  pub loads : (o : ℕ) → P 1 (lifted m (registers.loadOf (m .controller) o))
+  pub stores : (o : ℕ) → P 2 (lifted m (registers.storeOf (m .controller) o v))
+  pub reads : (a : ℕ) → P 3 (lifted m (csrs.csrReadOf (m .controller) a))
+  pub writes : (a : ℕ) → mayWrite m a ≡ true → P 4 (lifted m (csrs.csrWriteOf (m .controller) a v))
   pub takes : eqb (m .mask) 1 ≡ true → ltZ (pos 0) (calls.captureOf (m .controller) .margin) ≡ true
       → P 5 (accepted (taken m) (calls.captureOf (m .controller) .meihap))
   pub opens : hasHandler m ≡ true → P 6 (accepted (opened m) (uppermost m .rank .0))

@@ -11,19 +11,21 @@ use lib.IntN.{pos}
 use lib.Signed.{ltZ}
 use borrow.Author.Tests.{eqb-true, eqb-false, ltb-true, leb-true, not-true}
 use Rattle.pic.specs.declared.Controller.{Controller}
-use Rattle.pic.specs.declared.Rank.{Rank}
+use Rattle.source.specs.declared.Rank.{Rank}
 use Rattle.pic.specs.Sound as pic
 use Rattle.pic.specs.Calls as calls
-use Rattle.pic.proofs.Bools.{and-parts, or-cases, eq-cases}
-use Rattle.pic.proofs.Kept.{sample-sound, sample-sources, sample-current, store-sound, store-sources, store-current, csr-write-sound, csr-write-sources, csr-write-current, load-same, csr-read-same, capture-sound, capture-parts, current-sound, power-on-sound}
-use Rattle.pic.proofs.Captures.{captured-served, margin-over}
-use Rattle.handlers.specs.declared.Handler.{Handler}
+use Rattle.csrs.specs.Calls as csrs
+use Rattle.source.proofs.Bools.{and-parts, or-cases, eq-cases}
+use Rattle.pic_laws.proofs.Kept.{sample-sound, sample-sources, sample-current, store-sound, store-sources, store-current, csr-write-sound, csr-write-sources, csr-write-current, load-same, csr-read-same, capture-sound, capture-parts, current-sound, power-on-sound}
+use Rattle.pic_laws.proofs.Captures.{captured-served, margin-over}
+use Rattle.stack.specs.declared.Handler.{Handler}
 use Rattle.handlers.specs.declared.Machine.{Machine}
 use Rattle.handlers.specs.Fields.{withController, withMask}
-use Rattle.handlers.specs.Machines.{blank, uppermost, belowOf, levelOf, isOpen, soundOf, powerOnOf}
+use Rattle.stack.specs.Stacks.{blank, belowOf, levelOf}
+use Rattle.handlers.specs.Machines.{uppermost, isOpen, soundOf, powerOnOf}
 use Rattle.handlers.specs.Service.{lifted, mayWrite, newHandler, taken, marked, opened, serves, replaced, captured, chained, returned, csrWriteOf, stepOf}
 use Rattle.handlers.proofs.Cases.{step-cases}
-use Rattle.handlers.proofs.Stacks.{Fine, Stored, fine-kept, fine-stored, fine-popped}
+use Rattle.stack.proofs.Stacks.{Fine, Stored, fine-kept, fine-stored, fine-popped}
 use Rattle.handlers.proofs.Facts.{StackFacts, facts, sound, top-fine, level-opened, room}
 
 -- A sound machine whose stack has its fifteen places.
@@ -281,7 +283,7 @@ module _ (m : Machine) (r : Ready m) where
   same-ready : (c : Controller) → c ≡ m .controller → Ready (withController m c)
   same-ready c e = rw e r
 
-  write-ready : (a v : ℕ) → v < 2 ^ 32 → mayWrite m a ≡ true → Ready (lifted m (calls.csrWriteOf (m .controller) a v) .machine)
+  write-ready : (a v : ℕ) → v < 2 ^ 32 → mayWrite m a ≡ true → Ready (lifted m (csrs.csrWriteOf (m .controller) a v) .machine)
   write-ready a v b f =
       with-controller m _ r (csr-write-sound (m .controller) is-sound-controller a v b) (csr-write-sources (m .controller) a v)
       (⊎-elim (λ g. inr (csr-write-current (m .controller) a v (λ z. eqb-false a 0xBCC (not-true _ g) z))) (λ g. inl (eqb-true (m .depth) 0 g))

@@ -1,5 +1,4 @@
 -- Laws of the handler service.
-pub mod Stacks
 pub mod Facts
 pub mod Answers
 pub mod Cases

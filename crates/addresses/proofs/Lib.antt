@@ -1,0 +1,3 @@
+-- Laws of the tables of offsets and addresses.
+pub mod Offsets
+pub mod Csrs

@@ -1,0 +1,3 @@
+-- The rules of the control and status registers.
+pub mod Values
+pub mod Calls

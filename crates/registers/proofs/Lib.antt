@@ -1,0 +1,4 @@
+-- Laws of the registers and of the samples.
+pub mod Turns
+pub mod Words
+pub mod Writes

@@ -1,0 +1,3 @@
+-- The rules of the memory-mapped registers and of the samples.
+pub mod Registers
+pub mod Calls
