@@ -33,8 +33,8 @@ use Rattle.stack.specs.Stacks.{blank}
 use Rattle.handlers.specs.Machines.{uppermost, powerOnOf}
 use Rattle.handlers.specs.Service.{accepted, refused, lifted, newHandler, taken, marked, serves, replaced, chained, stepOf}
 use Rattle.handlers.proofs.Facts.{facts, Sound, room}
-use Rattle.handlers.proofs.Cases.{step-cases}
-use Rattle.handlers.proofs.Kept.{Ready, step-ready, power-on-ready, power-on-empty, top-current}
+use Rattle.handlers_laws.proofs.Cases.{step-cases}
+use Rattle.handlers_laws.proofs.Kept.{Ready, step-ready, power-on-ready, power-on-empty, top-current}
 use Rattle.claims.specs.Nested.{word, answerOf, classBy, seen, Won, eh1, Demand3}
 
 -- A served winner above the threshold is the one to serve.

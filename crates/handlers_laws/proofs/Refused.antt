@@ -5,11 +5,11 @@ use mathlib.Core.Bool.{false}
 use Rattle.pic.specs.declared.Outcome as controller
 use Rattle.pic.specs.Calls as calls
 use Rattle.pic_laws.proofs.Kept.{sample-refused, store-refused, csr-write-refused, load-same, csr-read-same}
 use Rattle.handlers.specs.declared.Machine.{Machine}
 use Rattle.handlers.specs.Fields.{withController}
 use Rattle.handlers.specs.Machines.{soundOf}
 use Rattle.handlers.specs.Service.{refused, stepOf}
-use Rattle.handlers.proofs.Cases.{step-cases}
+use Rattle.handlers_laws.proofs.Cases.{step-cases}
 
 module _ (m : Machine) where
   -- A refused event changes nothing.
