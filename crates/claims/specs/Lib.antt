@@ -1,3 +1,4 @@
 -- Lists of events played from power-on, and the claims about them.
 pub mod Play
 pub mod Nested
+pub mod Points

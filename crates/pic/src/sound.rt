@@ -2,11 +2,22 @@
 
 ghost use mathlib.Core.Path.{_≡_};
 ghost use Rattle.pic.specs.Calls.{powerOnOf};
-ghost use Rattle.pic.specs.Sound.{initial, sourceSoundAt, sourcesSound, soundOf};
+ghost use Rattle.pic.specs.Sound.{initial, sourceSound, sourcesSound, soundOf};
 use crate::Controller;
 use crate::Outcome;
-use source::Rank;
-use source::sources::source_sound;
+use crate::Rank;
+
+fn source_sound(rank: u8, enable: u8, trigger: u8, polarity: u8, line: u8, latch: u8) -> bool
+    ensures { λ r. ⌜ r ≡ sourceSound rank enable trigger polarity line latch ⌝ }
+{
+    (rank <= 15)
+        & (enable <= 1)
+        & (trigger <= 1)
+        & (polarity <= 1)
+        & (line <= 1)
+        & (latch <= 1)
+        & ((line == polarity) | (latch == 1))
+}
 
 // All else 0.
 fn with_sources(n: u8) -> Controller
@@ -49,29 +60,23 @@ impl Controller {
         }
     }
 
-    // Whether the values of source s are sound.
-    fn source_sound_at(self, s: u8) -> bool
-        ensures { λ r. ⌜ r ≡ sourceSoundAt self s ⌝ }
-    {
-        source_sound(
-            self.rank_at(s),
-            self.enable_at(s),
-            self.trigger_at(s),
-            self.polarity_at(s),
-            self.line_at(s),
-            self.latch_at(s),
-        )
-    }
-
     fn sources_sound(self) -> bool
         ensures { λ r. ⌜ r ≡ sourcesSound self (self .sources) ⌝ }
     {
-        let n = self.sources;
+        let n = self.sources as usize;
         let mut ok = true;
-        let mut s: u8 = 0;
+        let mut s: usize = 0;
         while s < n {
             s += 1;
-            ok = ok & self.source_sound_at(s);
+            ok = ok
+                & source_sound(
+                    self.rank[s],
+                    self.enable[s],
+                    self.trigger[s],
+                    self.polarity[s],
+                    self.line[s],
+                    self.latch[s],
+                );
         }
         ok
     }

@@ -1,4 +1,4 @@
-use Prim.Native.Nat.{_≤_, _-_}
+use Prim.Native.Nat.{_≤_, _<_, _-_}
 use mathlib.Core.Path.{_≡_}
 use native.Mathlib.Omega.{arith}
 use Rattle.pic.specs.Sources.{winnerTo}
@@ -8,10 +8,13 @@ use Rattle.pic.proofs.Controller.winner.Statement.{statement}
 use Rattle.pic.proofs.Controller.winner.Tie as tie
 
 abbrev Inv-loop : tie.InvT-loop
-Inv-loop self n w₀ s₀ w s = (n ≡ self .sources) × (s ≤ n) × (w ≡ winnerTo self s)
+Inv-loop self n w₀ s₀ w s = (n < 256) × (n ≡ self .sources) × (s ≤ n) × (w ≡ winnerTo self s)
 
 abbrev μ-loop : tie.MeasureT-loop
 μ-loop self n w₀ s₀ w s = n - s
+
+cast-n : tie.Need-cast-n Inv-loop μ-loop
+cast-n c = search needs
 
 loop-holds : tie.Need-loop-holds Inv-loop μ-loop
 unfolding winnerTo
@@ -20,8 +23,38 @@ loop-holds c = search needs
 add-s : tie.Need-add-s Inv-loop μ-loop
 add-s c = search needs
 
-entry-at-requires : tie.Need-entry-at-requires Inv-loop μ-loop
-entry-at-requires c κs = search needs
+element-copy-out-pending : tie.Need-element-copy-out-pending Inv-loop μ-loop
+element-copy-out-pending c = search needs
+
+element-copy-out-pending-2 : tie.Need-element-copy-out-pending-2 Inv-loop μ-loop
+element-copy-out-pending-2 c = search needs
+
+element-copy-out-pending-3 : tie.Need-element-copy-out-pending-3 Inv-loop μ-loop
+element-copy-out-pending-3 c = search needs
+
+element-copy-out-pending-4 : tie.Need-element-copy-out-pending-4 Inv-loop μ-loop
+element-copy-out-pending-4 c = search needs
+
+pending-requires : tie.Need-pending-requires Inv-loop μ-loop
+pending-requires c κs = search needs
+
+element-copy-out-eligible : tie.Need-element-copy-out-eligible Inv-loop μ-loop
+element-copy-out-eligible c = search needs
+
+element-copy-out-eligible-2 : tie.Need-element-copy-out-eligible-2 Inv-loop μ-loop
+element-copy-out-eligible-2 c = search needs
+
+eligible-requires : tie.Need-eligible-requires Inv-loop μ-loop
+eligible-requires c κs = search needs
+
+cast-entry : tie.Need-cast-entry Inv-loop μ-loop
+cast-entry c = search needs
+
+element-copy-out-entry : tie.Need-element-copy-out-entry Inv-loop μ-loop
+element-copy-out-entry c = search needs
+
+entry-requires : tie.Need-entry-requires Inv-loop μ-loop
+entry-requires c κs = search needs
 
 better-requires : tie.Need-better-requires Inv-loop μ-loop
 better-requires c κs = search needs
@@ -30,10 +63,11 @@ loop-less : tie.Need-loop-less Inv-loop μ-loop
 loop-less c = search needs
 
 loop-again : tie.Need-loop-again Inv-loop μ-loop
-loop-again c = (search needs, search needs, winner-turn _ _ (c .before .before .before .loop .inv .2) (c .before .entry-at .ensures) (c .better .ensures))
+loop-again c =
+    (search needs, search needs, search needs, winner-turn _ _ (c .before .before .before .before .before .before .before .before .before .before .before .before .loop .inv .3) (c .before .before .before .before .before .before .pending .ensures) (c .before .before .before .eligible .ensures) (c .before .entry .ensures) (c .better .ensures))
 
 returns : tie.Need-returns Inv-loop μ-loop
-returns c = let e : c .before .loop .s ≡ c .before .before .args .self .sources = omega arith in rw e at (c .before .loop .inv .2)
+returns c = let e : c .before .loop .s ≡ c .before .before .args .t1 .sources = omega arith in rw e at (c .before .loop .inv .3)
 
 pub winner-spec : {M : Type 1} → statement M
 winner-spec =
@@ -41,9 +75,20 @@ winner-spec =
     (tie.spec
     Inv-loop
     μ-loop
+    cast-n
     loop-holds
     add-s
-    entry-at-requires
+    element-copy-out-pending
+    element-copy-out-pending-2
+    element-copy-out-pending-3
+    element-copy-out-pending-4
+    pending-requires
+    element-copy-out-eligible
+    element-copy-out-eligible-2
+    eligible-requires
+    cast-entry
+    element-copy-out-entry
+    entry-requires
     better-requires
     loop-less
     loop-again

@@ -1,1 +1,0 @@
-// No code: laws of the machine's events, for the layers above.

@@ -1,2 +1,0 @@
--- The table, proved.
-pub mod Points

@@ -1,2 +1,0 @@
--- Bench points, as one table about the rules.
-pub mod Points

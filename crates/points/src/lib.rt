@@ -1,1 +1,0 @@
-// No code: the bench points are in specs/, their proofs in proofs/.

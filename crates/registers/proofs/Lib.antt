@@ -1,4 +1,0 @@
--- Laws of the registers and of the samples.
-pub mod Turns
-pub mod Words
-pub mod Writes

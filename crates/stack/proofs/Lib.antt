@@ -1,2 +1,0 @@
--- Laws of the stack of handlers.
-pub mod Stacks

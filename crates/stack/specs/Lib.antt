@@ -1,2 +1,0 @@
--- The rules of the stack of handlers.
-pub mod Stacks
