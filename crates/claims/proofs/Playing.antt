@@ -18,6 +18,7 @@ use Rattle.handlers.specs.Service.{stepOf}
 use Rattle.claims.specs.declared.Played.{Played}
 use Rattle.claims.specs.Play.{least, endOf, eachOf, answersOf, refusalsOf, countOf, playedOf}
 use Rattle.claims.specs.Nested.{word, eh1, eventsOf, Claimed}
+use Rattle.handlers.proofs.Kept.{Ready, step-ready}
 use Rattle.claims.proofs.Laws.{demand-3}
 
 -- The lesser of two is at most each of them.
@@ -179,3 +180,10 @@ played-all n hs vs answers₀ refusals₀ {p} {answers} {refusals} same ha hr ep
       as-many-answers = long (λ (o : Outcome). o .answer);
       as-many-refusals = long (λ (o : Outcome). o .refusal);
     }
+
+-- The machine after any list of 32-bit values is sound where the one before it is.
+pub end-ready : (m : Machine) → Ready m → (hs vs : List ℕ) → Words vs → Ready (endOf m hs vs)
+unfolding endOf
+end-ready m r [] vs w = r
+end-ready m r (h ∷ hs) [] w = r
+end-ready m r (h ∷ hs) (v ∷ vs) w = end-ready (stepOf m h v .machine) (step-ready m r h v (w 0)) hs vs (λ i. w (suc i))

@@ -5,8 +5,9 @@ use mathlib.Core.Bool.{Bool, true, false, cond, _&&_, _||_}
 use mathlib.Core.List.{map}
 use mathlib.Core.Logic.{_⊎_, inl, inr}
 use lib.ListN.{length, getD, List·getD-map}
-use lib.Dec.{eqb}
-use borrow.Author.Tests.{lt-ltb, le-ltb}
+use native.Mathlib.Omega.{arith}
+use lib.Dec.{eqb, ltb}
+use borrow.Author.Tests.{lt-ltb, le-ltb, ltb-true, ltb-false}
 use Rattle.event.specs.Event.{Parts, kinds, kindOf, addressOf, isKind, unusedAreZero, shapeOf}
 
 -- 01 names ten kinds.
@@ -16,6 +17,14 @@ ten-kinds = refl
 pub shape-6 : (head value : ℕ) → 10 ≤ kindOf head → 6 ≡ shapeOf head value
 unfolding shapeOf
 shape-6 head value h = rw (le-ltb _ _ h)
+
+-- An event that passes question 6 is of a kind 0..9.
+pub kind-known : (head value : ℕ) → shapeOf head value ≡ 0 → kindOf head < 10
+kind-known head value e = go (ltb (kindOf head) 10) refl
+  where
+    go : (t : Bool) → ltb (kindOf head) 10 ≡ t → kindOf head < 10
+    go true t = ltb-true (kindOf head) 10 t
+    go false t = let six : 6 ≡ shapeOf head value = shape-6 head value (ltb-false (kindOf head) 10 t) in absurd (omega (arith, six, e))
 
 -- The test that the code makes on a kind that there is.
 abbrev test : ℕ → ℕ → ℕ → Bool

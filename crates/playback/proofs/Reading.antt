@@ -6,11 +6,9 @@ use mathlib.Core.Path.{_≡_, refl, sym, subst, ap, _∙_}
 use mathlib.Core.List.{List}
 use lib.ListN.{length, getD, take, drop, length-append}
 use lib.Seq.{length-take-le}
-use lib.Dec.{ltb}
 use Rattle.buffers.specs.Filled.{filled}
-use borrow.Author.Tests.{eq-eqb, ne-eqb, ltb-true, ltb-false, lt-leb, le-leb}
-use Rattle.event.specs.Event.{kindOf, shapeOf}
-use Rattle.event.proofs.Laws.{shape-6}
+use borrow.Author.Tests.{eq-eqb, ne-eqb, lt-leb, le-leb}
+use Rattle.event.proofs.Laws.{kind-known}
 use Rattle.record.specs.declared.Verdict.{Verdict}
 use Rattle.record.specs.declared.ReadAnswer.{ReadAnswer}
 use Rattle.record.specs.declared.ReadAnswer.the-variants as reading
@@ -19,18 +17,15 @@ use Rattle.record.specs.Questions.{readVerdict}
 use Rattle.record.specs.Answers.{allYes, readNumbers, readAnswer, readHeads, readValues}
 use Rattle.record.proofs.Walk.{heads-length, values-length, walk-clear}
 use Rattle.record.proofs.Answers.{read-not}
-use Rattle.record.proofs.Parts.{read-parts}
+use Rattle.record.proofs.Parts.{read-parts, values-below}
+use Rattle.record.proofs.Words.{Below}
+use Rattle.handlers.specs.Machines.{powerOnOf, soundOf}
+use Rattle.handlers.proofs.Kept.{power-on-ready}
+use Rattle.claims.specs.Play.{endOf}
+use Rattle.claims.proofs.Playing.{end-ready}
 use Rattle.record.proofs.TooLong.{read-cut, long-refused}
 use Rattle.playback.specs.Text.{ascii}
 use Rattle.playback.specs.Print.{KnownKinds, asked, printOf, playedLines, refusedLine, Counts, room, printedLength, printedInto}
-
--- An event that passes question 6 is of a kind 0..9.
-kind-known : (head value : ℕ) → shapeOf head value ≡ 0 → kindOf head < 10
-kind-known head value e = go (ltb (kindOf head) 10) refl
-  where
-    go : (t : Bool) → ltb (kindOf head) 10 ≡ t → kindOf head < 10
-    go true t = ltb-true (kindOf head) 10 t
-    go false t = let six : 6 ≡ shapeOf head value = shape-6 head value (ltb-false (kindOf head) 10 t) in absurd (omega (arith, six, e))
 
 -- Arrays of 4,000 places.
 at-4000 : (bytes : List ℕ) {a b : ℕ} → a ≡ 4000 → b ≡ 4000 → readVerdict board bytes a b ≡ asked bytes
@@ -119,3 +114,7 @@ print-some bytes = go (allYes (asked bytes))
     go : (t : Bool) → 0 < length (cond t (playedLines (sourcesOf bytes) (headsOf bytes) (valuesOf bytes)) (refusedLine (asked bytes .refusal) (asked bytes .place)))
     go true = simp (length-append) (omega arith)
     go false = simp (length-append) (omega arith)
+
+-- The machine of the last line is sound, so its margin is the query's answer and no refusal.
+pub end-sound : (bytes : List ℕ) → Below 256 bytes → soundOf (endOf (powerOnOf (sourcesOf bytes) .machine) (headsOf bytes) (valuesOf bytes)) ≡ true
+end-sound bytes b = end-ready (powerOnOf (sourcesOf bytes) .machine) (power-on-ready (sourcesOf bytes)) (headsOf bytes) (valuesOf bytes) (values-below bytes b) .isSound

@@ -32,13 +32,18 @@ unfolding ascii
 one true = omega arith
 one false = omega arith
 
+-- A line of two numbers, each behind a text.
+two-numbers : (s t : List ℕ) (m n : ℕ) → length (s ++ decimal m ++ t ++ decimal n ++ ascii "\n") ≤ length s + length t + 41
+unfolding ascii
+two-numbers s t m n = simp (length-append) (omega (arith, twenty m, twenty n))
+
 pub first-length : (sources events : ℕ) → length (firstLine sources events) ≤ 57
 unfolding ascii
-first-length sources events = simp (length-append) (omega (arith, twenty sources, twenty events))
+first-length sources events = two-numbers (ascii "sources ") (ascii " events ") sources events
 
-pub refused-length : (refusal place : ℕ) → length (refusedLine refusal place) ≤ 57
+pub refused-length : (refusal place : ℕ) → length (refusedLine refusal place) ≤ 53
 unfolding ascii
-refused-length refusal place = simp (length-append) (omega (arith, twenty refusal, twenty place))
+refused-length refusal place = two-numbers (ascii "refused ") (ascii " at ") refusal place
 
 pub last-length : (depth level : ℕ) (below : Bool) (size : ℕ) → length (lastLine depth level below size) ≤ 86
 unfolding ascii
