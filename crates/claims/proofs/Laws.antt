@@ -13,12 +13,14 @@ use Rattle.event.specs.Event.{kindOf}
 use Rattle.pic.specs.declared.Controller.{Controller}
 use Rattle.pic.specs.declared.Capture.{Capture}
 use Rattle.pic.specs.declared.Outcome as controller
-use Rattle.pic.specs.declared.Rank.{Rank}
+use Rattle.source.specs.declared.Rank.{Rank}
 use Rattle.pic.specs.Sources.{rankAt, enableAt, pendingAt}
 use Rattle.pic.specs.Sound as pic
 use Rattle.pic.specs.Calls as calls
-use Rattle.pic.proofs.Bools.{and-parts, le-cases}
-use Rattle.pic.proofs.Captures.{Captured, captured-served, margin-over, above-over}
+use Rattle.registers.specs.Calls as registers
+use Rattle.csrs.specs.Calls as csrs
+use Rattle.source.proofs.Bools.{and-parts, le-cases}
+use Rattle.pic_laws.proofs.Captures.{Captured, captured-served, margin-over, above-over}
 use Rattle.pic.proofs.Winning.{eligible-parts, eligible-is}
 use Rattle.nesting.specs.Claim.{isOther, Does, Pushed, Swapped, Laws}
 use Rattle.nesting.specs.Held.{held}
@@ -27,11 +29,12 @@ use Rattle.nesting.proofs.Nesting.{nesting}
 use Rattle.handlers.specs.declared.Machine.{Machine}
 use Rattle.handlers.specs.declared.Outcome.{Outcome}
 use Rattle.handlers.specs.Fields.{withMask}
-use Rattle.handlers.specs.Machines.{blank, uppermost, powerOnOf}
+use Rattle.stack.specs.Stacks.{blank}
+use Rattle.handlers.specs.Machines.{uppermost, powerOnOf}
 use Rattle.handlers.specs.Service.{accepted, refused, lifted, newHandler, taken, marked, serves, replaced, chained, stepOf}
 use Rattle.handlers.proofs.Facts.{facts, Sound, room}
-use Rattle.handlers.proofs.Cases.{step-cases}
-use Rattle.handlers.proofs.Kept.{Ready, step-ready, power-on-ready, power-on-empty, top-current}
+use Rattle.handlers_laws.proofs.Cases.{step-cases}
+use Rattle.handlers_laws.proofs.Kept.{Ready, step-ready, power-on-ready, power-on-empty, top-current}
 use Rattle.claims.specs.Nested.{word, answerOf, classBy, seen, Won, eh1, Demand3}
 
 -- A served winner above the threshold is the one to serve.
@@ -133,11 +136,11 @@ module _ (m : Machine) (r : Ready m) where
       step-cases m v (λ k o. DoesBy k m o)
       (record {
         refuses = λ k q n. refused-does k m q n;
-        samples = λ x. controller-does 0 (λ e. omega arith) (λ e. omega arith) (λ e. omega arith) (calls.sampleOf (m .controller) x v);
-        loads = λ o. controller-does 1 (λ e. omega arith) (λ e. omega arith) (λ e. omega arith) (calls.loadOf (m .controller) o);
-        stores = λ o. controller-does 2 (λ e. omega arith) (λ e. omega arith) (λ e. omega arith) (calls.storeOf (m .controller) o v);
-        reads = λ a. controller-does 3 (λ e. omega arith) (λ e. omega arith) (λ e. omega arith) (calls.csrReadOf (m .controller) a);
-        writes = λ a f. controller-does 4 (λ e. omega arith) (λ e. omega arith) (λ e. omega arith) (calls.csrWriteOf (m .controller) a v);
+        samples = λ x. controller-does 0 (λ e. omega arith) (λ e. omega arith) (λ e. omega arith) (registers.sampleOf (m .controller) x v);
+        loads = λ o. controller-does 1 (λ e. omega arith) (λ e. omega arith) (λ e. omega arith) (registers.loadOf (m .controller) o);
+        stores = λ o. controller-does 2 (λ e. omega arith) (λ e. omega arith) (λ e. omega arith) (registers.storeOf (m .controller) o v);
+        reads = λ a. controller-does 3 (λ e. omega arith) (λ e. omega arith) (λ e. omega arith) (csrs.csrReadOf (m .controller) a);
+        writes = λ a f. controller-does 4 (λ e. omega arith) (λ e. omega arith) (λ e. omega arith) (csrs.csrWriteOf (m .controller) a v);
         takes = λ f g. taken-pushes (λ z. let o = eqb-true (m .mask) 1 f in omega arith) g;
         opens = λ f. held-mark seen (m .stack) (m .depth) (marked (uppermost m)) blank (ltb-true 0 (m .depth) f) deep refl;
         chains = λ f e.

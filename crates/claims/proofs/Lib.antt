@@ -1,4 +1,3 @@
 -- Demand 3, proved; and the laws of lists played.
 pub mod Laws
 pub mod Playing
-pub mod Points

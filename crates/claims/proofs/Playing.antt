@@ -18,7 +18,7 @@ use Rattle.handlers.specs.Service.{stepOf}
 use Rattle.claims.specs.declared.Played.{Played}
 use Rattle.claims.specs.Play.{least, endOf, eachOf, answersOf, refusalsOf, countOf, playedOf}
 use Rattle.claims.specs.Nested.{word, eh1, eventsOf, Claimed}
-use Rattle.handlers.proofs.Kept.{Ready, step-ready}
+use Rattle.handlers_laws.proofs.Kept.{Ready, step-ready}
 use Rattle.claims.proofs.Laws.{demand-3}
 
 -- The lesser of two is at most each of them.

@@ -7,6 +7,8 @@ ghost use Rattle.handlers.specs.Machines.{powerOnOf};
 ghost use Rattle.claims.specs.Play.{least, countOf, playedOf, answersOf, refusalsOf};
 ghost use Rattle.claims.specs.Nested.{Claimed};
 use handlers::Machine;
+use steps::power_on;
+use steps::step;
 
 // The end machine, how many events were played, and power-on's refusal.
 pub struct Played {
@@ -35,7 +37,7 @@ pub fn play(
     ensures { λ r. ⌜ now (refusals .exit) ≡ filled (refusalsOf (powerOnOf n .machine) (take (r .events) (now (heads .entry))) (take (r .events) (now (values .entry)))) (now (refusals .entry)) ⌝ }
     ensures { λ r. ⌜ Claimed n (take (r .events) (now (heads .entry))) (take (r .events) (now (values .entry))) (r .machine) ⌝ }
 {
-    let on = Machine::power_on(n);
+    let on = power_on(n);
     let mut m = on.machine;
     let k = lesser(
         lesser(heads.len(), values.len()),
@@ -43,7 +45,7 @@ pub fn play(
     );
     let mut i: usize = 0;
     while i < k {
-        let out = m.step(heads[i], values[i]);
+        let out = step(m, heads[i], values[i]);
         answers[i] = out.answer;
         refusals[i] = out.refusal;
         m = out.machine;

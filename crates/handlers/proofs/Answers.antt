@@ -4,18 +4,17 @@ use mathlib.Core.Path.{_≡_, refl, sym, ap, _∙_}
 use mathlib.Core.Bool.{Bool, true, false, cond, not, _&&_, _||_}
 use native.Mathlib.Omega.{arith}
 use lib.Dec.{leb, eqb}
-use lib.IntN.{pos}
 use borrow.Author.Tests.{le-leb, lt-leb, not-true, not-false}
 use Rattle.pic.specs.declared.Capture.{Capture}
-use Rattle.pic.specs.declared.Margin.{Margin}
 use Rattle.pic.specs.declared.Outcome as controller
 use Rattle.pic.specs.Sound as pic
 use Rattle.pic.specs.Calls as calls
-use Rattle.pic.proofs.Kept.{margin-8, capture-8, capture-is}
+use Rattle.pic_laws.proofs.Kept.{capture-8, capture-is}
 use Rattle.handlers.specs.declared.Machine.{Machine}
 use Rattle.handlers.specs.declared.Outcome.{Outcome}
-use Rattle.handlers.specs.Machines.{uppermost, handlersSound, levelOf, stackSound, soundOf}
-use Rattle.handlers.specs.Service.{lifted, refused, ask, marginAnswer, mayWrite, sampleOf, loadOf, storeOf, csrReadOf, csrWriteOf, takeOf, openOf, chainOf, returnOf, setMaskOf, eventOf}
+use Rattle.handlers.specs.Machines.{uppermost, stackSound, soundOf}
+use Rattle.stack.specs.Stacks.{handlersSound, levelOf}
+use Rattle.handlers.specs.Service.{lifted, refused, ask, mayWrite, sampleOf, loadOf, storeOf, csrReadOf, csrWriteOf, takeOf, openOf, chainOf, returnOf, setMaskOf, eventOf}
 
 module _ (m : Machine) where
   -- What `stack_sound` tests is the handlers' part of soundness: the rest holds by the types.
@@ -48,22 +47,25 @@ module _ (m : Machine) where
   pub is-sound : {r : Bool} → r ≡ soundOf m → not r ≡ false → soundOf m ≡ true
   is-sound {r} e h = sym e ∙ not-false r h
 
-  -- A call of the controller's asks 8 itself.
-  pub lift-answer : {r : Outcome} {o : controller.Outcome} (p : controller.Outcome) → soundOf m ≡ pic.soundOf (m .controller) → o ≡ p
-      → (pic.soundOf (m .controller) ≡ false → p ≡ calls.refused (m .controller) 8) → r ≡ lifted m o → r ≡ ask m (soundOf m) 8 (lifted m p)
-  lift-answer {r} {o} p e ho h hr = go (pic.soundOf (m .controller)) refl
-    where
-      go : (t : Bool) → pic.soundOf (m .controller) ≡ t → r ≡ ask m (soundOf m) 8 (lifted m p)
-      go true f = rw (e, f) (hr ∙ ap (lifted m) ho)
-      go false f = rw (e, f) (hr ∙ ap (lifted m) (ho ∙ h f))
+  -- `stack_sound() & is_sound()`.
+  pub sound-both : {a b t : Bool} → a ≡ stackSound m → b ≡ pic.soundOf (m .controller) → a && b ≡ t → soundOf m ≡ t
+  unfolding soundOf
+  sound-both ha hb h = rw (← ha, ← hb) h
 
-  pub margin-answer : {r : Margin} → soundOf m ≡ pic.soundOf (m .controller) → r ≡ calls.marginAnswer (m .controller) → r ≡ marginAnswer m
-  unfolding marginAnswer
-  margin-answer {r} e hr = go (pic.soundOf (m .controller)) refl
+  -- A call of the controller's asks 8 itself.
+  pub lift-answer : {r : Outcome} {ok : Bool} {o : controller.Outcome} (p : controller.Outcome) → ok ≡ stackSound m → o ≡ p
+      → (pic.soundOf (m .controller) ≡ false → p ≡ calls.refused (m .controller) 8) → r ≡ ask m ok 8 (lifted m o) → r ≡ ask m (soundOf m) 8 (lifted m p)
+  unfolding soundOf
+  lift-answer {r} {ok} {o} p e ho h hr = go (stackSound m) refl (pic.soundOf (m .controller)) refl
     where
-      go : (t : Bool) → pic.soundOf (m .controller) ≡ t → r ≡ cond (soundOf m) (calls.marginAnswer (m .controller)) (record { margin = pos 0; refusal = 8 })
-      go true f = rw (e, f) hr
-      go false f = rw (e, f) (hr ∙ margin-8 (m .controller) f)
+      asked : r ≡ ask m (stackSound m) 8 (lifted m p)
+      asked = hr ∙ ap (λ (b : Bool). ask m b 8 (lifted m o)) e ∙ ap (λ (q : controller.Outcome). ask m (stackSound m) 8 (lifted m q)) ho
+
+      go : (s : Bool) → stackSound m ≡ s → (t : Bool) → pic.soundOf (m .controller) ≡ t
+          → r ≡ ask m (stackSound m && pic.soundOf (m .controller)) 8 (lifted m p)
+      go true f true g = rw (f, g) (rw f at asked)
+      go true f false g = rw (f, g) ((rw f at asked) ∙ ap (lifted m) (h g))
+      go false f t g = rw f (rw f at asked)
 
   -- Question 14 as the code asks it.
   pub may-write : (a : ℕ) {t : Bool} → eqb a 0xBCC && not (eqb (m .depth) 0) ≡ t → mayWrite m a ≡ not t

@@ -10,7 +10,9 @@ use Rattle.pic.specs.declared.Margin.{Margin}
 use Rattle.pic.specs.declared.Outcome as controller
 use Rattle.pic.specs.Fields.{withCurrent}
 use Rattle.pic.specs.Calls as calls
-use Rattle.handlers.specs.declared.Handler.{Handler}
+use Rattle.registers.specs.Calls as registers
+use Rattle.csrs.specs.Calls as csrs
+use Rattle.stack.specs.declared.Handler.{Handler}
 use Rattle.handlers.specs.declared.Machine.{Machine}
 use Rattle.handlers.specs.declared.Outcome.{Outcome}
 use Rattle.handlers.specs.Fields.{withController, withMask, withDepth, withStack}
@@ -34,16 +36,16 @@ lifted m o = record { machine = withController m (o .controller); answer = o .an
 
 -- Sample, load, store, CSR read: 8, then the controller's own questions.
 unfoldable pub sampleOf : Machine → ℕ → ℕ → Outcome
-sampleOf m x v = ask m (soundOf m) 8 (lifted m (calls.sampleOf (m .controller) x v))
+sampleOf m x v = ask m (soundOf m) 8 (lifted m (registers.sampleOf (m .controller) x v))
 
 unfoldable pub loadOf : Machine → ℕ → Outcome
-loadOf m offset = ask m (soundOf m) 8 (lifted m (calls.loadOf (m .controller) offset))
+loadOf m offset = ask m (soundOf m) 8 (lifted m (registers.loadOf (m .controller) offset))
 
 unfoldable pub storeOf : Machine → ℕ → ℕ → Outcome
-storeOf m offset v = ask m (soundOf m) 8 (lifted m (calls.storeOf (m .controller) offset v))
+storeOf m offset v = ask m (soundOf m) 8 (lifted m (registers.storeOf (m .controller) offset v))
 
 unfoldable pub csrReadOf : Machine → ℕ → Outcome
-csrReadOf m a = ask m (soundOf m) 8 (lifted m (calls.csrReadOf (m .controller) a))
+csrReadOf m a = ask m (soundOf m) 8 (lifted m (csrs.csrReadOf (m .controller) a))
 
 -- 14. Write to 0xBCC: is no handler open?
 abbrev pub mayWrite : Machine → ℕ → Bool
@@ -51,7 +53,7 @@ mayWrite m a = not (eqb a 0xBCC) || eqb (m .depth) 0
 
 -- CSR write: 8, 14 and the controller's own. 14 is asked of 0xBCC alone, to which 12 and 13 answer yes, so its place among them is the same.
 unfoldable pub csrWriteOf : Machine → ℕ → ℕ → Outcome
-csrWriteOf m a v = ask m (soundOf m) 8 (ask m (mayWrite m a) 14 (lifted m (calls.csrWriteOf (m .controller) a v)))
+csrWriteOf m a v = ask m (soundOf m) 8 (ask m (mayWrite m a) 14 (lifted m (csrs.csrWriteOf (m .controller) a v)))
 
 -- A query gives the margin for any sound machine; it has only 8.
 unfoldable pub marginAnswer : Machine → Margin

@@ -1,20 +1,11 @@
 // The machine: the interrupt controller with its mask and its stack of handlers, and the handler service.
 
-mod registers;
+mod lifted;
 mod service;
 mod sound;
-mod steps;
 
 use pic::Controller;
-use pic::Rank;
-
-// A handler on the stack: its source, its rank, the current rank that its return puts back, and 1 once it was opened.
-pub struct Handler {
-    pub source: u8,
-    pub rank: Rank,
-    pub saved: Rank,
-    pub opened: u8,
-}
+use stack::Handler;
 
 // The machine. Places of the stack from depth up mean nothing.
 pub struct Machine {

@@ -3,12 +3,21 @@
 ghost use mathlib.Core.Path.{_≡_};
 ghost use lib.IntN.{pos};
 ghost use lib.Signed.{ltZ};
-ghost use Rattle.handlers.specs.Service.{takeOf, openOf, chainOf, returnOf, setMaskOf};
-use crate::Handler;
+ghost use Prim.Native.Nat.{_-_, _≤_, _<_};
+ghost use mathlib.Core.Bool.{cond};
+ghost use lib.ListN.{set};
+ghost use Rattle.pic.specs.Calls.{captureOf};
+ghost use Rattle.handlers.specs.Fields.{withStack};
+ghost use Rattle.handlers.specs.Machines.{uppermost};
+ghost use Rattle.handlers.specs.Service.{accepted, taken, takeOf, opened, openOf, serves, replaced, captured, chained, chainOf, returned, returnOf, setMaskOf};
 use crate::Machine;
 use crate::Outcome;
 use crate::sound::accept;
 use crate::sound::refuse;
+use csrs::with_current;
+use pic::Capture;
+use source::Rank;
+use stack::Handler;
 
 // Whether a margin is above 0.
 fn is_above(margin: i32) -> bool
@@ -36,7 +45,16 @@ impl Machine {
         if !is_above(out.margin) {
             return refuse(self, 16);
         }
+        accept(self.push(out), out.meihap)
+    }
+
+    // The winner of a capture pushed, unopened, with the current rank as saved.
+    fn push(mut self, out: Capture) -> Machine
+        requires { ⌜ (self .depth < 15) × (out ≡ captureOf (self .controller)) ⌝ }
+        ensures { λ m. ⌜ m ≡ taken self ⌝ }
+    {
         let d = self.depth;
+        let c = self.controller;
         let w = out.winner;
         let r = w.rank;
         let saved = c.current;
@@ -50,7 +68,7 @@ impl Machine {
         self.depth = d + 1;
         self.mask = 0;
         self.controller = next;
-        accept(self, out.meihap)
+        self
     }
 
     // Opens the uppermost handler: it can be interrupted again by a higher rank.
@@ -60,22 +78,29 @@ impl Machine {
         if !self.is_sound() {
             return refuse(self, 8);
         }
-        let d = self.depth;
-        if d == 0 {
+        if self.depth == 0 {
             return refuse(self, 17);
         }
-        let mut h = self.stack[d - 1];
+        let h = self.top();
         if h.opened != 0 {
             return refuse(self, 18);
         }
-        let r = h.rank;
+        accept(self.mark(h), h.rank.0 as u32)
+    }
+
+    // The uppermost handler, h, marked as opened, its rank the current one, and the mask on.
+    fn mark(mut self, mut h: Handler) -> Machine
+        requires { ⌜ (0 < self .depth) × (self .depth ≤ 15) × (h ≡ uppermost self) ⌝ }
+        ensures { λ m. ⌜ m ≡ opened self ⌝ }
+    {
+        let d = self.depth;
         let c = self.controller;
-        let next = c.with_current(r);
+        let next = with_current(c, h.rank);
         h.opened = 1;
         self.stack[d - 1] = h;
         self.controller = next;
         self.mask = 1;
-        accept(self, r.0 as u32)
+        self
     }
 
     // Serves the winner in the uppermost handler's place, if it is of that handler's rank and above the threshold; else answers 0.
@@ -90,23 +115,39 @@ impl Machine {
         if out.refusal != 0 {
             return refuse(self, 8);
         }
-        let d = self.depth;
-        if d == 0 {
+        if self.depth == 0 {
             return refuse(self, 17);
         }
         if self.mask != 0 {
             return refuse(self, 19);
         }
-        let mut h = self.stack[d - 1];
+        self.follow(out)
+    }
+
+    // A capture in the uppermost handler.
+    fn follow(mut self, out: Capture) -> Outcome
+        requires { ⌜ (0 < self .depth) × (self .depth ≤ 15) × (out ≡ captureOf (self .controller)) ⌝ }
+        ensures { λ r. ⌜ r ≡ cond (serves self) (accepted (chained self) (captureOf (self .controller) .meihap)) (accepted (captured self) 0) ⌝ }
+    {
+        let h = self.top();
         let w = out.winner;
         let next = out.controller;
         self.controller = next;
         if (w.rank.0 == h.rank.0) & out.above {
-            h.source = w.source;
-            self.stack[d - 1] = h;
-            return accept(self, out.meihap);
+            return accept(self.replace(h, w.source), out.meihap);
         }
         accept(self, 0)
+    }
+
+    // The uppermost handler, h, with another source.
+    fn replace(mut self, mut h: Handler, s: u8) -> Machine
+        requires { ⌜ (0 < self .depth) × (self .depth ≤ 15) ⌝ }
+        ensures { λ m. ⌜ m ≡ withStack self (set (self .stack) (self .depth - 1) (replaced h s)) ⌝ }
+    {
+        let d = self.depth;
+        h.source = s;
+        self.stack[d - 1] = h;
+        self
     }
 
     // Ends the uppermost handler, and puts back the current rank that its taking found.
@@ -123,14 +164,22 @@ impl Machine {
         if self.mask != 0 {
             return refuse(self, 19);
         }
-        let h = self.stack[d - 1];
-        let s = h.saved;
+        let h = self.top();
+        accept(self.pop(h.saved), (d - 1) as u32)
+    }
+
+    // One handler less, the current rank its saved one, and the mask on.
+    fn pop(mut self, saved: Rank) -> Machine
+        requires { ⌜ (0 < self .depth) × (saved ≡ uppermost self .saved) ⌝ }
+        ensures { λ m. ⌜ m ≡ returned self ⌝ }
+    {
+        let d = self.depth;
         let c = self.controller;
-        let next = c.with_current(s);
+        let next = with_current(c, saved);
         self.controller = next;
         self.depth = d - 1;
         self.mask = 1;
-        accept(self, (d - 1) as u32)
+        self
     }
 
     // Sets the mask to the value.

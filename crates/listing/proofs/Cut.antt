@@ -1,4 +1,4 @@
--- A text that is longer than any good one has a bad line, and so has every cut of it that is still longer: the same one. So it is with records.
+-- A text that is longer than any good one has a bad line, and so has every cut of it that is still longer: the same one.
 use mathlib.Core.Path.{_≡_, refl, sym, ap, _∙_}
 use mathlib.Core.Bool.{Bool, true, false, cond, _&&_}
 use mathlib.Core.Logic.{_⊎_, inl, inr}
@@ -9,12 +9,10 @@ use borrow.Author.Tests.{leb-true, ltb-true, ltb-false, lt-leb, ne-eqb}
 use lib.Dec.{eqb, leb, ltb}
 use lib.ListN.{length, take, length-append}
 use lib.Seq.{take-nil, length-take-le}
-use Rattle.record.specs.Record.{board}
-use Rattle.record.proofs.TooLong.{read-cut, long-refused}
 use Rattle.listing.specs.Lines.{lineFeed, colon, before, after, linesIn}
 use Rattle.listing.specs.Numbers.{isNumber, allDigits}
 use Rattle.listing.specs.Reading.{headPart, valuePart, isWord, isSources, isEvent, lastLine, firstBadFrom, firstBad}
-use Rattle.listing.specs.Answers.{toRecordAnswer, toRecordBytes, toTextAnswer, toTextBytes}
+use Rattle.listing.specs.Answers.{toRecordAnswer, toRecordBytes}
 use Rattle.listing.proofs.Digits.{and-true}
 use Rattle.listing.proofs.Sentences.{split-mark}
 use Rattle.listing.proofs.Marks.{lines-first, lines-all}
@@ -180,10 +178,3 @@ pub cut-answer : (text : List ℕ) (m space : ℕ) (bytes : List ℕ) → 72004 
 cut-answer text m space bytes late inside =
     let same = cut-same text m late inside in
     rw (same .0, ne-eqb (firstBad text) 0 (same .1)) (refl, refl)
-
--- The longest record has 32,008 bytes. A longer list of bytes is refused, and where it is cut after more than that the refusal and its place are the same.
-pub cut-record : (bytes : List ℕ) (m : ℕ) (text : List ℕ) → 32008 < m → m ≤ length bytes
-    → (toTextAnswer (take m bytes) ≡ toTextAnswer bytes) × (toTextBytes (take m bytes) text ≡ toTextBytes bytes text)
-cut-record bytes m text late inside =
-    let long : 32008 < length bytes = omega arith in
-    rw (read-cut board bytes m 4000 4000 late inside, ne-eqb _ 0 (long-refused board bytes 4000 4000 long)) (refl, refl)

@@ -1,21 +1,17 @@
--- The listing of document 01 as text, both ways, and texts that are refused, computed by the rules.
+-- The listing of document 01 as text, what it says, and texts that are refused, computed by the rules.
 use mathlib.Core.Path.{_≡_, refl}
 use Prim.Native.Nat.{ℕ}
 use mathlib.Core.List.{List, [], _∷_}
 use Rattle.event.specs.Event.{shapeOf}
-use Rattle.digits.specs.Digits.{digitsTo}
-use Rattle.record.specs.Words.{wordsOf, bytesOfWords}
-use Rattle.record.specs.Record.{recordOf}
-use Rattle.record.specs.Questions.{readVerdict, writeVerdict, walkFrom}
+use Rattle.record.specs.Questions.{writeVerdict, walkFrom}
 use Rattle.record.specs.Answers.{accepted, refused}
 use Rattle.listing.specs.Lines.{before, after, linesIn, linesOf}
 use Rattle.listing.specs.Numbers.{digitOf, allDigits, numberAfter}
 use Rattle.listing.specs.Reading.{firstBadFrom, sourcesSaid, headsSaid, valuesSaid}
-use Rattle.listing.specs.Writing.{eventsText, textOf}
-use Rattle.listing.specs.Answers.{told, badLine, toRecordAnswer, toTextAnswer}
+use Rattle.listing.specs.Answers.{told, badLine, toRecordAnswer}
 
 -- N 4 and ten events, a line of the text to a line.
-abbrev listing : List ℕ
+abbrev pub listing : List ℕ
 listing =
     52 ∷ 10
     ∷ 48 ∷ 48 ∷ 48 ∷ 50 ∷ 50 ∷ 48 ∷ 48 ∷ 56 ∷ 58 ∷ 49 ∷ 10
@@ -30,10 +26,10 @@ listing =
     ∷ 48 ∷ 48 ∷ 48 ∷ 56 ∷ 48 ∷ 48 ∷ 48 ∷ 48 ∷ 58 ∷ 48 ∷ 10
     ∷ []
 
-abbrev heads : List ℕ
+abbrev pub heads : List ℕ
 heads = 0x00022008 ∷ 0x00020008 ∷ 0x00000000 ∷ 0x00050000 ∷ 0x00090000 ∷ 0x00050000 ∷ 0x00060000 ∷ 0x00080000 ∷ 0x00090000 ∷ 0x00080000 ∷ []
 
-abbrev values : List ℕ
+abbrev pub values : List ℕ
 values = 1 ∷ 5 ∷ 4 ∷ 0 ∷ 1 ∷ 0 ∷ 0 ∷ 0 ∷ 0 ∷ 0 ∷ []
 
 -- What it says.
@@ -49,18 +45,10 @@ pub listing-values : valuesSaid listing ≡ values
 unfolding after linesOf linesIn numberAfter digitOf
 listing-values = refl
 
--- The record of 88 bytes that is made of it, and the text that is made of the record.
+-- The record of 88 bytes that is made of it.
 pub listing-made : toRecordAnswer listing 32008 ≡ told 0 (accepted (88 ∷ []))
 unfolding firstBadFrom before after linesOf linesIn allDigits numberAfter digitOf writeVerdict walkFrom shapeOf
 listing-made = refl
-
-pub listing-told : textOf (recordOf 4 heads values) ≡ listing
-unfolding eventsText digitsTo wordsOf bytesOfWords
-listing-told = refl
-
-pub listing-length : toTextAnswer (recordOf 4 heads values) ≡ accepted (112 ∷ [])
-unfolding eventsText digitsTo wordsOf bytesOfWords readVerdict walkFrom shapeOf
-listing-length = refl
 
 -- The empty text has one line, which is empty.
 pub no-text : toRecordAnswer ([]) 32008 ≡ badLine 1

@@ -1,7 +1,5 @@
--- The text of a record, read and written.
+-- The text of a record, read.
 pub mod Lines
 pub mod Numbers
 pub mod Reading
-pub mod Writing
 pub mod Answers
-pub mod Trip

@@ -1,16 +1,14 @@
 -- Each answer of a call, from what its questions showed.
-use Prim.Native.Nat.{ℕ, _/_, _%_, _^_, _<_}
-use mathlib.Core.Path.{_≡_, refl, sym, _∙_}
-use mathlib.Core.Bool.{Bool, true, false, cond, not, _&&_}
+use Prim.Native.Nat.{_%_, _^_, _<_}
+use mathlib.Core.Path.{_≡_, sym, _∙_}
+use mathlib.Core.Bool.{Bool, true, false, not, _&&_}
 use native.Mathlib.Omega.{arith}
 use lib.ListN.{length}
-use lib.Dec.{leb, ltb, eqb}
+use lib.Dec.{leb, eqb}
 use borrow.Author.Tests.{le-leb, lt-ltb, not-true, not-false}
 use Rattle.pic.specs.declared.Controller.{Controller}
-use Rattle.pic.specs.declared.Register.the-variants.{Meipl, Meip, Meie, Mpiccfg, Meigwctrl, Meigwclr, NoRegister}
-use Rattle.pic.specs.Sources.{isSource, settle}
+use Rattle.pic.specs.Sources.{settle}
 use Rattle.pic.specs.Sound.{soundOf, sourcesSound}
-use Rattle.pic.specs.Registers.{isRegister, sourceRegister, pageRegister, registerAt}
 use Rattle.pic.proofs.Soundness.{facts, settle-same}
 
 -- What `is_sound` tests is soundness: the rest holds by the types.
@@ -36,34 +34,3 @@ is-sound c {r} e h = sym e ∙ not-false r h
 -- On a sound controller an event that changes nothing hands it back.
 pub settled : (c : Controller) → soundOf c ≡ true → c ≡ settle c
 settled c e = sym (settle-same c (facts c e))
-
--- What is at an offset is a register that the controller can have.
-source-valid : (n page s : ℕ) → isSource n s ≡ true → isRegister n (sourceRegister page s) ≡ true
-unfolding sourceRegister
-source-valid n page s h = go (eqb page 0) (eqb page 2) (eqb page 4) (eqb page 5)
-  where
-    go : (a b d e : Bool)
-        → isRegister n (cond a (Meipl s) (cond b (Meie s) (cond d (Meigwctrl s) (cond e (Meigwclr s) NoRegister)))) ≡ true
-    go true b d e = h
-    go false true d e = h
-    go false false true e = h
-    go false false false true = h
-    go false false false false = refl
-
-pub register-valid : (n offset : ℕ) → isRegister n (registerAt n offset) ≡ true
-unfolding pageRegister
-register-valid n offset =
-    go (eqb (offset / 4096) 1) (ltb (offset % 4096 / 4) 8) refl (eqb (offset / 4096) 3) (eqb (offset % 4096 / 4) 0)
-    (isSource n (offset % 4096 / 4)) refl
-  where
-    go : (a b : Bool) → ltb (offset % 4096 / 4) 8 ≡ b → (d e f : Bool) → isSource n (offset % 4096 / 4) ≡ f
-        → isRegister n
-        (cond a (cond b (Meip (offset % 4096 / 4)) NoRegister)
-        (cond d (cond e Mpiccfg NoRegister) (cond f (sourceRegister (offset / 4096) (offset % 4096 / 4)) NoRegister)))
-        ≡ true
-    go true true p d e f q = p
-    go true false p d e f q = refl
-    go false b p true true f q = refl
-    go false b p true false f q = refl
-    go false b p false e true q = source-valid n (offset / 4096) (offset % 4096 / 4) q
-    go false b p false e false q = refl

@@ -1,18 +1,21 @@
 -- What soundness says, in numbers: the Bool of the rules taken apart and put together, for this crate and those above.
 use Prim.Native.Nat.{ℕ, zero, suc, _+_, _*_, _%_, _^_, _≤_, _<_}
-use mathlib.Core.Path.{_≡_, refl, sym}
+use mathlib.Core.Path.{_≡_, refl, sym, ap, _∙_}
 use mathlib.Core.Bool.{Bool, true, false, cond, _||_}
 use mathlib.Core.List.{List}
 use mathlib.Core.Logic.{⊎-elim}
 use native.Mathlib.Omega.{arith}
 use lib.ListN.{length, getD, set, length-set}
 use lib.Seq.{getD-set-same, getD-set-other}
-use lib.Dec.{leb, eqb}
+use lib.Dec.{eqb}
 use borrow.Author.Tests.{leb-true, ltb-true, eqb-true, eqb-false, le-leb, lt-ltb, eq-eqb}
 use Rattle.pic.specs.declared.Controller.{Controller}
-use Rattle.pic.specs.Sources.{isSource, rankAt, enableAt, triggerAt, polarityAt, lineAt, latchAt, isActive, latchAfter, settle, latchesTo}
-use Rattle.pic.specs.Sound.{placeTests, sourceTests, sourceSound, sourceSoundAt, sourcesSound, soundTests, soundOf}
-use Rattle.pic.proofs.Bools.{and-parts, or-cases, eq-cases, all-at}
+use Rattle.source.specs.Sources.{isActive, latchAfter}
+use Rattle.pic.specs.Fields.{withLatch}
+use Rattle.pic.specs.Sources.{rankAt, enableAt, triggerAt, polarityAt, lineAt, latchAt, settle, latchesTo}
+use Rattle.pic.specs.Sound.{placeTests, sourceSoundAt, sourcesSound, soundTests, soundOf}
+use Rattle.source.specs.Sound.{sourceTests, sourceSound}
+use Rattle.source.proofs.Bools.{and-parts, or-cases, eq-cases, all-at}
 use Rattle.pic.proofs.Latches.{length-latches, latch-in, latches-same, after-after}
 
 -- An array with a place for each of the n sources, whose values at the sources are at most m.
@@ -182,6 +185,15 @@ sound c h =
 pub settle-same : (c : Controller) → Sound c → settle c ≡ c
 settle-same c h = rw (latches-same (c .line) (c .polarity) (c .latch) (c .sources) (h .latched))
 
+-- A change that leaves lines, polarities and latches alone.
+pub settle-kept : (c d : Controller) → Sound c → d .sources ≡ c .sources → d .line ≡ c .line → d .polarity ≡ c .polarity → d .latch ≡ c .latch
+    → d ≡ settle d
+settle-kept c d h n l p a =
+    ap (withLatch d) (a ∙ sym (latches-same (c .line) (c .polarity) (c .latch) (c .sources) (h .latched)) ∙ same)
+  where
+    same : latchesTo (c .line) (c .polarity) (c .latch) (c .sources) ≡ latchesTo (d .line) (d .polarity) (d .latch) (d .sources)
+    same = rw (n, l, p, a)
+
 -- Settling the latches of a controller whose values are in range makes it sound.
 pub settle-sound : (c : Controller) → InRange c → Sound (settle c)
 settle-sound c h =
@@ -210,7 +222,3 @@ meihap-fits c h s b =
     let v = h .inRange .scalars in
     let n = v .1 in
     omega (arith, v .3 .aligned, v .3 .fits)
-
--- What the test for a source says.
-pub source-range : (n s : ℕ) → isSource n s ≡ true → (1 ≤ s) × (s ≤ n)
-source-range n s e = let p = and-parts (leb 1 s) (leb s n) e in (leb-true 1 s (p .0), leb-true s n (p .1))

@@ -1,28 +1,21 @@
 -- One turn of each loop, over plain variables.
-use Prim.Native.Nat.{ℕ, _+_, _*_, _%_, _^_, _<_}
-use Prim.{tt}
+use Prim.Native.Nat.{ℕ, _+_}
 use mathlib.Core.Path.{_≡_}
-use mathlib.Core.Bool.{Bool, true, false, _&&_}
+use mathlib.Core.Bool.{Bool, _&&_}
 use native.Mathlib.Numerals.{add-one}
-use native.Mathlib.Omega.{arith}
-use lib.Bits.{bitOr, or-shifted-r}
-use lib.Pow.{shl-exact, pow-add}
-use lib.Dec.{lit<}
+use Rattle.source.specs.declared.Winner.{Winner}
+use Rattle.source.specs.Sources.{entryOf, betterOf}
 use Rattle.pic.specs.declared.Controller.{Controller}
-use Rattle.pic.specs.declared.Winner.{Winner}
-use Rattle.pic.specs.Sources.{isSource, rankAt, pendingAt, enableAt, isEligible, entryOf, betterOf, winnerTo}
+use Rattle.pic.specs.Sources.{rankAt, eligibleAt, winnerTo}
 use Rattle.pic.specs.Sound.{sourceSoundAt, sourcesSound}
-use Rattle.pic.specs.Registers.{joinOf, pendingTo}
 
-pub winner-turn : (c : Controller) (s : ℕ) {w w′ e : Winner} {p ok : Bool}
+pub winner-turn : (c : Controller) (s : ℕ) {w w′ e : Winner}
     → w ≡ winnerTo c s
-    → p ≡ pendingAt c (s + 1)
-    → ok ≡ isEligible (enableAt c (s + 1)) p (rankAt c (s + 1) .0)
-    → e ≡ entryOf ok (s + 1) (rankAt c (s + 1) .0)
+    → e ≡ entryOf (eligibleAt c (s + 1)) (s + 1) (rankAt c (s + 1) .0)
     → w′ ≡ betterOf w e
     → w′ ≡ winnerTo c (s + 1)
 unfolding winnerTo
-winner-turn c s hw hp ho he hb = rw (hb, hw, he, ho, hp, add-one)
+winner-turn c s hw he hb = rw (hb, hw, he, add-one)
 
 pub sources-turn : (c : Controller) (s : ℕ) {ok good : Bool}
     → ok ≡ sourcesSound c s
@@ -30,21 +23,3 @@ pub sources-turn : (c : Controller) (s : ℕ) {ok good : Bool}
     → ok && good ≡ sourcesSound c (s + 1)
 unfolding sourcesSound
 sources-turn c s ho hg = rw (ho, hg, add-one)
-
--- A bit above all of a word's, set by an or.
-pub join-set : (w y : ℕ) → y < 32 → w < 2 ^ y → bitOr w (1 * 2 ^ y % 2 ^ 32) ≡ w + 2 ^ y
-join-set w y hy hw = rw (shl-exact {a = 1} 1 y 32 (lit< tt) (omega arith), or-shifted-r 1 y w hw) (omega arith)
-
-pub join-lt : (w y : ℕ) (on : Bool) → w < 2 ^ y → joinOf w y on < 2 ^ (y + 1)
-unfolding joinOf
-join-lt w y true h = omega (arith, pow-add 2 y 1)
-join-lt w y false h = omega (arith, pow-add 2 y 1)
-
-pub pending-turn : (c : Controller) (x y : ℕ) {w w′ : ℕ} {i p : Bool}
-    → w ≡ pendingTo c x y
-    → i ≡ isSource (c .sources) (32 * x + y)
-    → p ≡ pendingAt c (32 * x + y)
-    → w′ ≡ joinOf w y (i && p)
-    → w′ ≡ pendingTo c x (y + 1)
-unfolding pendingTo
-pending-turn c x y hw hi hp hj = rw (hj, hw, hi, hp, add-one)

@@ -7,11 +7,12 @@ use native.Mathlib.Omega.{arith}
 use lib.Dec.{leb, ltb, eqb}
 use borrow.Author.Tests.{ltb-true, ltb-false, leb-true, le-ltb, le-leb, eq-eqb}
 use Rattle.pic.specs.declared.Controller.{Controller}
-use Rattle.pic.specs.declared.Rank.{Rank}
-use Rattle.pic.specs.declared.Winner.{Winner}
-use Rattle.pic.specs.Ranks.{rank}
-use Rattle.pic.specs.Sources.{rankAt, enableAt, pendingAt, isEligible, eligibleAt, entryOf, betterOf, winnerTo, winnerOf, Eligible, Before, IsWinner}
-use Rattle.pic.proofs.Bools.{never, and-parts, eq-cases}
+use Rattle.source.specs.declared.Rank.{Rank}
+use Rattle.source.specs.declared.Winner.{Winner}
+use Rattle.source.specs.Ranks.{rank}
+use Rattle.pic.specs.Sources.{rankAt, enableAt, pendingAt, eligibleAt, winnerTo, winnerOf, Eligible, Before, IsWinner}
+use Rattle.source.specs.Sources.{isEligible, entryOf, betterOf}
+use Rattle.source.proofs.Bools.{never, and-parts, eq-cases}
 use Rattle.pic.proofs.Soundness.{Sound}
 
 -- An eligible source is enabled, pending, and of rank 1 or more.

@@ -1,7 +1,5 @@
 -- The rules of the interrupt controller, in the order of document 01.
 pub mod Fields
-pub mod Ranks
 pub mod Sources
 pub mod Sound
-pub mod Registers
 pub mod Calls

@@ -1,11 +1,12 @@
 -- Document 01, "What a machine holds", the controller's part: power-on, and when a controller is sound.
 use Prim.Native.Nat.{ℕ, zero, suc, _%_, _^_}
-use mathlib.Core.Bool.{Bool, true, _&&_, _||_}
+use mathlib.Core.Bool.{Bool, true, _&&_}
 use mathlib.Core.List.{List, [], _∷_}
 use lib.ListN.{length, replicate}
 use lib.Dec.{leb, ltb, eqb}
 use Rattle.pic.specs.declared.Controller.{Controller}
-use Rattle.pic.specs.Ranks.{rank}
+use Rattle.source.specs.Ranks.{rank}
+use Rattle.source.specs.Sound.{all, sourceSound}
 use Rattle.pic.specs.Sources.{rankAt, enableAt, triggerAt, polarityAt, lineAt, latchAt}
 
 -- Power-on with N sets all else to 0.
@@ -31,15 +32,6 @@ initial n =
 abbrev pub isCount : ℕ → Bool
 isCount n = leb 2 n && leb n 255
 
--- All tests of a list hold.
-abbrev pub allFrom : Bool → List Bool → Bool
-allFrom a [] = a
-allFrom a (b ∷ bs) = allFrom (a && b) bs
-
-abbrev pub all : List Bool → Bool
-all [] = true
-all (b ∷ bs) = allFrom b bs
-
 -- Rank, enable, type, polarity, line and latch for every source: each array has a place for it.
 abbrev pub placeTests : Controller → List Bool
 placeTests c =
@@ -52,20 +44,6 @@ placeTests c =
     ∷ []
 
 -- The values of a source are in range, and its latch is set if its line is active.
-abbrev pub sourceTests : ℕ → ℕ → ℕ → ℕ → ℕ → ℕ → List Bool
-sourceTests rank enable trigger polarity line latch =
-    leb rank 15
-    ∷ leb enable 1
-    ∷ leb trigger 1
-    ∷ leb polarity 1
-    ∷ leb line 1
-    ∷ leb latch 1
-    ∷ (eqb line polarity || eqb latch 1)
-    ∷ []
-
-unfoldable pub sourceSound : ℕ → ℕ → ℕ → ℕ → ℕ → ℕ → Bool
-sourceSound rank enable trigger polarity line latch = all (sourceTests rank enable trigger polarity line latch)
-
 abbrev pub sourceSoundAt : Controller → ℕ → Bool
 sourceSoundAt c s = sourceSound (rankAt c s .0) (enableAt c s) (triggerAt c s) (polarityAt c s) (lineAt c s) (latchAt c s)
 

@@ -2,20 +2,16 @@
 use Prim.Native.Nat.{ℕ, zero, suc, _≤_, _<_}
 use mathlib.Core.Path.{_≡_}
 use mathlib.Core.Logic.{_⊎_}
-use mathlib.Core.Bool.{Bool, true, cond, not, _&&_}
+use mathlib.Core.Bool.{Bool, true}
 use mathlib.Core.List.{List}
 use lib.ListN.{getD, set}
-use lib.Dec.{leb, ltb, eqb}
-use lib.IntN.{ℤ, pos, _-ℤ_}
+use lib.IntN.{ℤ}
 use Rattle.pic.specs.declared.Controller.{Controller}
-use Rattle.pic.specs.declared.Rank.{Rank}
-use Rattle.pic.specs.declared.Winner.{Winner}
+use Rattle.source.specs.declared.Rank.{Rank}
+use Rattle.source.specs.declared.Winner.{Winner}
 use Rattle.pic.specs.Fields.{withLatch, withClaim, withClaimed}
-use Rattle.pic.specs.Ranks.{rank}
-
--- Sources are 1..N.
-abbrev pub isSource : ℕ → ℕ → Bool
-isSource n s = leb 1 s && leb s n
+use Rattle.source.specs.Ranks.{rank}
+use Rattle.source.specs.Sources.{latchAfter, isPending, isEligible, nobody, entryOf, betterOf, higherOf, gapOf}
 
 -- Rank, enable, type (trigger here), polarity, line and latch of a source.
 abbrev pub rankAt : Controller → ℕ → Rank
@@ -36,15 +32,8 @@ lineAt c s = getD (c .line) s 0
 abbrev pub latchAt : Controller → ℕ → ℕ
 latchAt c s = getD (c .latch) s 0
 
--- A line is active when line differs from polarity (polarity 0 active high, 1 active low).
-abbrev pub isActive : ℕ → ℕ → Bool
-isActive line polarity = not (eqb line polarity)
-
 -- After each accepted event, a latch is set if its line is active, or if it was set and this event didn't clear it. An event that clears a latch
 -- makes it 0 first; `settle` is the rest, for every source.
-abbrev pub latchAfter : ℕ → ℕ → ℕ → ℕ
-latchAfter line polarity latch = cond (isActive line polarity) 1 latch
-
 unfoldable pub latchesTo : List ℕ → List ℕ → List ℕ → ℕ → List ℕ
 latchesTo line polarity latch zero = latch
 latchesTo line polarity latch (suc n) =
@@ -58,31 +47,12 @@ settle c = withLatch c (latchesTo (c .line) (c .polarity) (c .latch) (c .sources
 abbrev pub settleAt : Controller → ℕ → Controller
 settleAt c s = withLatch c (set (c .latch) s (latchAfter (lineAt c s) (polarityAt c s) (latchAt c s)))
 
--- A source is pending: type 0 (level) when active, type 1 (edge) when its latch is set.
-unfoldable pub isPending : ℕ → ℕ → ℕ → ℕ → Bool
-isPending trigger polarity line latch = cond (eqb trigger 0) (isActive line polarity) (eqb latch 1)
-
+-- Whether a source is pending, and eligible.
 abbrev pub pendingAt : Controller → ℕ → Bool
 pendingAt c s = isPending (triggerAt c s) (polarityAt c s) (lineAt c s) (latchAt c s)
 
--- It is eligible when enabled, pending and of rank 1 or more.
-unfoldable pub isEligible : ℕ → Bool → ℕ → Bool
-isEligible enable pending rank = eqb enable 1 && pending && leb 1 rank
-
 abbrev pub eligibleAt : Controller → ℕ → Bool
 eligibleAt c s = isEligible (enableAt c s) (pendingAt c s) (rankAt c s .0)
-
--- No source, of rank 0.
-abbrev pub nobody : Winner
-nobody = record { source = 0; rank = rank 0 }
-
--- A source enters with its number and rank if it is eligible, else as nobody.
-unfoldable pub entryOf : Bool → ℕ → ℕ → Winner
-entryOf eligible s r = cond eligible (record { source = s; rank = rank r }) nobody
-
--- Of two, the second passes only if its rank is strictly higher.
-unfoldable pub betterOf : Winner → Winner → Winner
-betterOf a b = cond (ltb (a .rank .0) (b .rank .0)) b a
 
 -- The winner (01's word) among the sources 1 to n. `IsWinner` below is 01's sentence about it.
 unfoldable pub winnerTo : Controller → ℕ → Winner
@@ -115,14 +85,7 @@ pub record Idle (c : Controller) (n : ℕ) (w : Winner) : Type 0 where
 abbrev pub IsWinner : Controller → ℕ → Winner → Type 0
 IsWinner c n w = Served c n w ⊎ Idle c n w
 
--- The larger of two ranks.
-unfoldable pub higherOf : Rank → Rank → Rank
-higherOf a b = cond (ltb (a .0) (b .0)) b a
-
 -- The margin (01's word) is the winner's rank minus the larger of threshold and current, a signed number from −15 to 15.
-unfoldable pub gapOf : Rank → Rank → ℤ
-gapOf a b = pos (a .0) -ℤ pos (b .0)
-
 abbrev pub marginOf : Controller → ℤ
 marginOf c = gapOf (winnerOf c .rank) (higherOf (c .threshold) (c .current))
 

@@ -1,18 +1,11 @@
-// The VeeR EH1 interrupt controller: sources, gateways, registers, CSRs, winner, margin and capture.
+// The VeeR EH1 interrupt controller: what it holds, power-on, soundness, winner, margin and capture. Its registers are in the crates above.
 
 mod calls;
-mod csrs;
-pub mod ranks;
-mod registers;
-mod samples;
 mod sound;
 mod sources;
 
-// A rank, 0..15: how urgent a source is. The highest is served first.
-pub struct Rank(pub u8);
-
-// What bits 3:0 of a priority register hold.
-pub struct Field(pub u8);
+use source::Rank;
+use source::Winner;
 
 // The controller. The arrays are indexed by source number; places 0 and above the number of sources mean nothing.
 pub struct Controller {
@@ -31,12 +24,6 @@ pub struct Controller {
     pub threshold: Rank,
     pub claimed: Rank,
     pub current: Rank,
-}
-
-// A source number and its rank; 0 and rank 0 where there is none.
-pub struct Winner {
-    pub source: u8,
-    pub rank: Rank,
 }
 
 // What an event hands back. A refused one answers 0 and hands back the controller as it was.
@@ -60,25 +47,4 @@ pub struct Capture {
     pub above: bool,
     pub margin: i32,
     pub refusal: u8,
-}
-
-// The registers by source number, or by word for meip.
-pub enum Register {
-    Meipl(u8),
-    Meip(u8),
-    Meie(u8),
-    Mpiccfg,
-    Meigwctrl(u8),
-    Meigwclr(u8),
-    NoRegister,
-}
-
-pub enum Csr {
-    Meivt,
-    Meipt,
-    Meicpct,
-    Meicidpl,
-    Meicurpl,
-    Meihap,
-    NoCsr,
 }

@@ -1,12 +1,14 @@
 // Power-on, and whether a controller is sound.
 
 ghost use mathlib.Core.Path.{_≡_};
+ghost use Rattle.source.specs.Sound.{sourceSound};
 ghost use Rattle.pic.specs.Calls.{powerOnOf};
-ghost use Rattle.pic.specs.Sound.{initial, sourceSound, sourcesSound, soundOf};
+ghost use Rattle.pic.specs.Sound.{initial, sourcesSound, soundOf};
 use crate::Controller;
 use crate::Outcome;
-use crate::Rank;
+use source::Rank;
 
+// Whether the values of a source are sound.
 fn source_sound(rank: u8, enable: u8, trigger: u8, polarity: u8, line: u8, latch: u8) -> bool
     ensures { λ r. ⌜ r ≡ sourceSound rank enable trigger polarity line latch ⌝ }
 {

@@ -1,36 +1,14 @@
-// One source: active, pending, eligible; and the winner of all.
+// What enters the comparison of the sources, and the winner.
 
 ghost use mathlib.Core.Path.{_≡_};
-ghost use Rattle.pic.specs.Sources.{isSource, latchAfter, isPending, isEligible, entryOf, betterOf, winnerOf};
+ghost use Rattle.source.specs.Sources.{isPending, isEligible, entryOf, betterOf};
+ghost use Rattle.pic.specs.Sources.{winnerOf};
 use crate::Controller;
-use crate::Rank;
-use crate::Winner;
+use source::Rank;
+use source::Winner;
+use source::sources::pending;
 
-// Whether s is a source of the n.
-pub(crate) fn is_source(n: u8, s: u32) -> bool
-    ensures { λ r. ⌜ r ≡ isSource n s ⌝ }
-{
-    (1 <= s) & (s <= n as u32)
-}
-
-// A latch after an event that left its line, its polarity and itself so.
-pub(crate) fn latch_after(line: u8, polarity: u8, latch: u8) -> u8
-    ensures { λ r. ⌜ r ≡ latchAfter line polarity latch ⌝ }
-{
-    if line != polarity { 1 } else { latch }
-}
-
-pub(crate) fn pending(trigger: u8, polarity: u8, line: u8, latch: u8) -> bool
-    ensures { λ r. ⌜ r ≡ isPending trigger polarity line latch ⌝ }
-{
-    if trigger == 0 {
-        line != polarity
-    } else {
-        latch == 1
-    }
-}
-
-pub(crate) fn eligible(enable: u8, is_pending: bool, rank: u8) -> bool
+fn eligible(enable: u8, is_pending: bool, rank: u8) -> bool
     ensures { λ r. ⌜ r ≡ isEligible enable «is_pending» rank ⌝ }
 {
     (enable == 1) & is_pending & (1 <= rank)
@@ -53,6 +31,14 @@ fn entry(ok: bool, s: u8, rank: u8) -> Winner
     }
 }
 
+// Source s as it enters the comparison, by its values.
+fn candidate(s: u8, rank: u8, enable: u8, trigger: u8, polarity: u8, line: u8, latch: u8) -> Winner
+    ensures { λ r. ⌜ r ≡ entryOf (isEligible enable (isPending trigger polarity line latch) rank) s rank ⌝ }
+{
+    let is_pending = pending(trigger, polarity, line, latch);
+    entry(eligible(enable, is_pending, rank), s, rank)
+}
+
 // Of two, the second only if its rank is strictly higher.
 fn better(a: Winner, b: Winner) -> Winner
     ensures { λ r. ⌜ r ≡ betterOf a b ⌝ }
@@ -73,14 +59,16 @@ impl Controller {
         let mut s: usize = 0;
         while s < n {
             s += 1;
-            let is_pending = pending(
+            let e = candidate(
+                s as u8,
+                self.rank[s],
+                self.enable[s],
                 self.trigger[s],
                 self.polarity[s],
                 self.line[s],
                 self.latch[s],
             );
-            let ok = eligible(self.enable[s], is_pending, self.rank[s]);
-            w = better(w, entry(ok, s as u8, self.rank[s]));
+            w = better(w, e);
         }
         w
     }

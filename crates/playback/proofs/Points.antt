@@ -32,9 +32,9 @@ below-zero = refl
 
 -- No byte at all; and four events said, with none there.
 pub refused-1 : printOf [] ≡ ascii "refused 1 at 0\n"
-unfolding ascii digitsTo readVerdict
+unfolding ascii digitsTo readVerdict printOf
 refused-1 = refl
 
 pub refused-4 : printOf (4 ∷ 0 ∷ 0 ∷ 0 ∷ 4 ∷ 0 ∷ 0 ∷ 0 ∷ []) ≡ ascii "refused 4 at 0\n"
-unfolding ascii digitsTo readVerdict wordsOf
+unfolding ascii digitsTo readVerdict wordsOf printOf
 refused-4 = refl

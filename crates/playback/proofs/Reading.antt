@@ -20,7 +20,7 @@ use Rattle.record.proofs.Answers.{read-not}
 use Rattle.record.proofs.Parts.{read-parts, values-below}
 use Rattle.record.proofs.Words.{Below}
 use Rattle.handlers.specs.Machines.{powerOnOf, soundOf}
-use Rattle.handlers.proofs.Kept.{power-on-ready}
+use Rattle.handlers_laws.proofs.Kept.{power-on-ready}
 use Rattle.claims.specs.Play.{endOf}
 use Rattle.claims.proofs.Playing.{end-ready}
 use Rattle.record.proofs.TooLong.{read-cut, long-refused}
@@ -66,10 +66,12 @@ fetched bytes heads₀ values₀ {r} {heads} {values} {n} {s} lh lv kh kv er eh 
 
 -- The print of a record that is played, and of one that is refused.
 pub print-done : (bytes : List ℕ) → allYes (asked bytes) ≡ true → printOf bytes ≡ playedLines (sourcesOf bytes) (headsOf bytes) (valuesOf bytes)
+unfolding printOf
 print-done bytes e = rw e
 
 pub print-refused : (bytes heads₀ values₀ : List ℕ) {r : ReadAnswer} {number place : ℕ} → length heads₀ ≡ 4000 → length values₀ ≡ 4000
     → readNumbers r ≡ readAnswer board bytes (length heads₀) (length values₀) → r ≡ reading.Refused number place → refusedLine number place ≡ printOf bytes
+unfolding printOf
 print-refused bytes heads₀ values₀ {r} {number} {place} lh lv er d =
     let no = read-not board bytes (length heads₀) (length values₀) er d in
     let here = at-4000 bytes lh lv in
@@ -101,6 +103,7 @@ print-counts bytes out {d} {r} e f =
 
 -- Of an input that is longer than any record, as much as is longer too prints the same: what the player reads is enough.
 pub print-cut : (bytes : List ℕ) (m : ℕ) → 32008 < m → m ≤ length bytes → printOf (take m bytes) ≡ printOf bytes
+unfolding printOf
 print-cut bytes m h l =
     let same : asked (take m bytes) ≡ asked bytes = read-cut board bytes m 4000 4000 h l in
     let no : asked bytes .refusal ≡ 0 → ⊥ = long-refused board bytes 4000 4000 (omega arith) in
@@ -108,7 +111,7 @@ print-cut bytes m h l =
 
 -- Every print has a line, so an answer of 0 comes from a buffer that is too short.
 pub print-some : (bytes : List ℕ) → 0 < length (printOf bytes)
-unfolding ascii
+unfolding ascii printOf
 print-some bytes = go (allYes (asked bytes))
   where
     go : (t : Bool) → 0 < length (cond t (playedLines (sourcesOf bytes) (headsOf bytes) (valuesOf bytes)) (refusedLine (asked bytes .refusal) (asked bytes .place)))

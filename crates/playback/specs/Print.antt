@@ -63,7 +63,7 @@ abbrev pub asked : List ℕ → Verdict
 asked bytes = readVerdict board bytes 4000 4000
 
 -- The whole print.
-abbrev pub printOf : List ℕ → List ℕ
+unfoldable pub printOf : List ℕ → List ℕ
 printOf bytes =
     cond
     (allYes (asked bytes))

@@ -13,6 +13,7 @@ use crate::lines::put_line;
 use crate::lines::size;
 use handlers::Machine;
 use record::ReadAnswer;
+use steps::margin;
 
 // Enough for the print of any record: no number has more than twenty digits, so the first line has at most 57 bytes and the last at most 86. In the line of an
 // event the index has at most 4 digits, the kind 1, the answer 10 and the refusal 3, so it has at most 22 bytes, and there are at most 4,000.
@@ -48,7 +49,7 @@ fn put_end(out: &mut [u8], at: usize, m: Machine) -> usize
     ensures { λ r. ⌜ r ≡ at + length (endLine m) ⌝ }
     ensures { λ _. ⌜ now (out .exit) ≡ sets (now (out .entry)) at (endLine m) ⌝ }
 {
-    let q = m.margin();
+    let q = margin(m);
     let below = is_below(q.margin);
     let far = size(q.margin);
     put_last(

@@ -1,4 +1,4 @@
--- The answer and the verdict: what a reader and a writer leave is what the rules say, and what an answer tells of the verdict.
+-- The answer and the verdict: what a reader leaves is what the rules say, and what an answer tells of the verdict.
 use mathlib.Core.Bool.{cond}
 use mathlib.Core.Path.{_≡_, refl, sym, ap, _∙_}
 use Prim.Native.Nat.{ℕ, zero, suc, _+_}
@@ -14,9 +14,9 @@ use Rattle.record.specs.declared.ReadAnswer.{ReadAnswer}
 use Rattle.record.specs.declared.ReadAnswer.the-variants as reading
 use Rattle.record.specs.declared.WriteAnswer.{WriteAnswer}
 use Rattle.record.specs.declared.WriteAnswer.the-variants as writing
-use Rattle.record.specs.Record.{recordOf, countOf, sourcesOf, wordsFrom}
+use Rattle.record.specs.Record.{countOf, sourcesOf, wordsFrom}
 use Rattle.record.specs.Questions.{lengthOf, readVerdict, writeVerdict}
-use Rattle.record.specs.Answers.{Answer, accepted, refused, readNumbers, readAnswer, readHeads, readValues, writeNumbers, writeAnswer, writtenBytes}
+use Rattle.record.specs.Answers.{Answer, accepted, refused, readNumbers, readAnswer, readHeads, readValues, writeNumbers, writeAnswer}
 
 module _ (limits : Limits) (bytes heads values : List ℕ) {v : Verdict} (e : v ≡ readVerdict limits bytes (length heads) (length values)) where
   pub read-refused : (v .refusal ≡ 0 → ⊥)
@@ -29,17 +29,6 @@ module _ (limits : Limits) (bytes heads values : List ℕ) {v : Verdict} (e : v 
       → (accepted (n ∷ s ∷ []) ≡ readAnswer limits bytes (length heads) (length values))
       × ((hs ≡ readHeads limits bytes heads values) × (vs ≡ readValues limits bytes heads values))
   read-accepted z en es eh ev = rw (eh, ev, en, es, ← e, eq-eqb _ _ z) (refl, (refl, refl))
-
-module _ (limits : Limits) (sources : ℕ) (heads values bytes : List ℕ) {v : Verdict} (e : v ≡ writeVerdict limits sources heads values (length bytes)) where
-  pub write-refused : (v .refusal ≡ 0 → ⊥)
-      → (refused (v .refusal) (v .place) ≡ writeAnswer limits sources heads values (length bytes))
-      × (bytes ≡ writtenBytes limits sources heads values bytes)
-  write-refused z = rw (← e, ne-eqb _ _ z) (refl, refl)
-
-  pub write-accepted : {bs : List ℕ} → v .refusal ≡ 0 → bs ≡ filled (recordOf sources heads values) bytes
-      → (accepted (lengthOf (length heads) ∷ []) ≡ writeAnswer limits sources heads values (length bytes))
-      × (bs ≡ writtenBytes limits sources heads values bytes)
-  write-accepted z eb = rw (eb, ← e, eq-eqb _ _ z) (refl, refl)
 
 -- An answer of values: every question was answered yes.
 yes-back : (q at : ℕ) (xs ys : List ℕ) → accepted ys ≡ cond (eqb q 0) (accepted xs) (refused q at) → (q ≡ 0) × (ys ≡ xs)

@@ -3,20 +3,26 @@ use mathlib.Core.Path.{_≡_, sym, _∙_}
 use Prim.Native.Nat.{ℕ, zero, suc, _+_, _^_, _<_}
 use native.Mathlib.Omega.{arith}
 use mathlib.Core.List.{List, [], _∷_}
+use borrow.Author.Tests.{eq-eqb}
 use lib.Dec.{lit<}
 use lib.ListN.{length, take, drop}
+use lib.Seq.{take-at}
 use Rattle.record.specs.declared.Limits.{Limits}
+use Rattle.record.specs.declared.Verdict.{Verdict}
 use Rattle.record.specs.declared.ReadAnswer.{ReadAnswer}
 use Rattle.record.specs.declared.ReadAnswer.the-variants as reading
 use Rattle.record.specs.Words.{wordsOf}
 use Rattle.record.specs.Record.{countOf, sourcesOf, headsOf, valuesOf}
 use Rattle.record.specs.Questions.{readVerdict}
-use Rattle.record.specs.Answers.{readNumbers, readAnswer, readHeads, readValues}
+use Rattle.record.specs.Answers.{stored, readNumbers, readAnswer, readHeads, readValues}
 use Rattle.record.proofs.Words.{Below}
 use Rattle.record.proofs.Walk.{heads-length, values-length}
 use Rattle.record.proofs.Questions.{Readable, readable}
 use Rattle.record.proofs.Answers.{read-done}
-use Rattle.record.proofs.Trips.{stored-part}
+
+-- What is stored is read out again.
+pub stored-part : (v : Verdict) (new old : List ℕ) (n : ℕ) {d : List ℕ} → v .refusal ≡ 0 → length new ≡ n → d ≡ stored v new old → take n d ≡ new
+stored-part v new old n z l e = rw (e, eq-eqb _ _ z) (take-at new (drop (length new) old) n l)
 
 -- An accepted reading: N, and in the first n places of the arrays the heads and values of the record.
 pub record Parts (limits : Limits) (bytes : List ℕ) (headPlaces valuePlaces n s : ℕ) (hs vs : List ℕ) : Type 0 where

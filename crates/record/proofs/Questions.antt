@@ -17,54 +17,29 @@ module _ (limits : Limits) (bytes : List ℕ) (hp vp : ℕ) where
   unfolding readVerdict
   read-no-1 h = rw (lt-leb _ _ h)
 
-  module _ (q1 : 8 ≤ length bytes) {s : ℕ} {range : Bool} (es : s ≡ sourcesOf bytes) (er : range ≡ sourcesInRange limits s) where
-    pub read-no-2 : not range ≡ true → verdict 2 0 ≡ readVerdict limits bytes hp vp
+  module _ (q1 : 8 ≤ length bytes) {s : ℕ} (es : s ≡ sourcesOf bytes) where
+    pub read-no-2 : not (sourcesInRange limits s) ≡ true → verdict 2 0 ≡ readVerdict limits bytes hp vp
     unfolding readVerdict
-    read-no-2 h = rw (le-leb _ _ q1, ← es, ← er, not-true range h)
+    read-no-2 h = rw (le-leb _ _ q1, ← es, not-true (sourcesInRange limits s) h)
 
-    module _ (q2 : not range ≡ false) {n : ℕ} (en : n ≡ countOf bytes) where
+    module _ (q2 : not (sourcesInRange limits s) ≡ false) {n : ℕ} (en : n ≡ countOf bytes) where
       pub read-no-3 : limits .events < n → verdict 3 0 ≡ readVerdict limits bytes hp vp
       unfolding readVerdict
-      read-no-3 h = rw (le-leb _ _ q1, ← es, ← er, not-false range q2, ← en, lt-leb _ _ h)
+      read-no-3 h = rw (le-leb _ _ q1, ← es, not-false (sourcesInRange limits s) q2, ← en, lt-leb _ _ h)
 
       module _ (q3 : n ≤ limits .events) where
         pub read-no-4 : (length bytes ≡ lengthOf n → ⊥) → verdict 4 0 ≡ readVerdict limits bytes hp vp
         unfolding readVerdict
-        read-no-4 h = rw (le-leb _ _ q1, ← es, ← er, not-false range q2, ← en, le-leb _ _ q3, ne-eqb _ _ h)
+        read-no-4 h = rw (le-leb _ _ q1, ← es, not-false (sourcesInRange limits s) q2, ← en, le-leb _ _ q3, ne-eqb _ _ h)
 
         module _ (q4 : length bytes ≡ lengthOf n) where
           pub read-no-5 : not (arraysHold n hp vp) ≡ true → verdict 5 0 ≡ readVerdict limits bytes hp vp
           unfolding readVerdict
-          read-no-5 h = rw (le-leb _ _ q1, ← es, ← er, not-false range q2, ← en, le-leb _ _ q3, eq-eqb _ _ q4, not-true (arraysHold n hp vp) h)
+          read-no-5 h = rw (le-leb _ _ q1, ← es, not-false (sourcesInRange limits s) q2, ← en, le-leb _ _ q3, eq-eqb _ _ q4, not-true (arraysHold n hp vp) h)
 
           pub read-walk : not (arraysHold n hp vp) ≡ false → walk (wordsFrom bytes 2 n) (wordsFrom bytes (2 + n) n) ≡ readVerdict limits bytes hp vp
           unfolding readVerdict
-          read-walk h = rw (le-leb _ _ q1, ← es, ← er, not-false range q2, ← en, le-leb _ _ q3, eq-eqb _ _ q4, not-false (arraysHold n hp vp) h)
-
--- Writing: the same.
-module _ (limits : Limits) (sources : ℕ) (heads values : List ℕ) (space : ℕ) {range : Bool} (er : range ≡ sourcesInRange limits sources) where
-  pub write-no-2 : not range ≡ true → verdict 2 0 ≡ writeVerdict limits sources heads values space
-  unfolding writeVerdict
-  write-no-2 h = rw (← er, not-true range h)
-
-  module _ (q2 : not range ≡ false) where
-    pub write-no-3 : limits .events < length heads → verdict 3 0 ≡ writeVerdict limits sources heads values space
-    unfolding writeVerdict
-    write-no-3 h = rw (← er, not-false range q2, lt-leb _ _ h)
-
-    module _ (q3 : length heads ≤ limits .events) where
-      pub write-no-4 : (length heads ≡ length values → ⊥) → verdict 4 0 ≡ writeVerdict limits sources heads values space
-      unfolding writeVerdict
-      write-no-4 h = rw (← er, not-false range q2, le-leb _ _ q3, ne-eqb _ _ h)
-
-      module _ (q4 : length heads ≡ length values) where
-        pub write-no-5 : space < lengthOf (length heads) → verdict 5 0 ≡ writeVerdict limits sources heads values space
-        unfolding writeVerdict
-        write-no-5 h = rw (← er, not-false range q2, le-leb _ _ q3, eq-eqb _ _ q4, lt-leb _ _ h)
-
-        pub write-walk : lengthOf (length heads) ≤ space → walk heads values ≡ writeVerdict limits sources heads values space
-        unfolding writeVerdict
-        write-walk h = rw (← er, not-false range q2, le-leb _ _ q3, eq-eqb _ _ q4, le-leb _ _ h)
+          read-walk h = rw (le-leb _ _ q1, ← es, not-false (sourcesInRange limits s) q2, ← en, le-leb _ _ q3, eq-eqb _ _ q4, not-false (arraysHold n hp vp) h)
 
 and-true : (a b : Bool) → a && b ≡ true → (a ≡ true) × (b ≡ true)
 and-true true true h = (refl, refl)

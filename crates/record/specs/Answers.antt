@@ -1,8 +1,8 @@
 -- Document 01, "The record": what the reader and the writer answer, and what they leave in what they were lent.
 use Prim.Native.Nat.{ℕ}
 use mathlib.Core.Bool.{Bool, cond}
-use mathlib.Core.List.{List, [], _∷_, _++_}
-use lib.ListN.{length, drop}
+use mathlib.Core.List.{List, [], _∷_}
+use lib.ListN.{length}
 use lib.Dec.{eqb}
 use Rattle.buffers.specs.Filled.{filled}
 use Rattle.record.specs.declared.Limits.{Limits}

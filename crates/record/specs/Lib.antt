@@ -3,4 +3,3 @@ pub mod Words
 pub mod Record
 pub mod Questions
 pub mod Answers
-pub mod Trips

@@ -2,9 +2,6 @@ use borrow.Author.Needs.{needs}
 use Rattle.record.proofs.read.Statement.{statement}
 use Rattle.record.proofs.read.Tie as tie
 
-limits-of-board-requires : tie.Need-limits-of-board-requires
-limits-of-board-requires c κs = search needs
-
 read-within-requires : tie.Need-read-within-requires
 read-within-requires c κs = search needs
 
@@ -15,9 +12,7 @@ same-length-2 : tie.Need-same-length-2
 same-length-2 c = search needs
 
 returns : tie.Need-returns
-returns c = rw (c .before .before .before .before .before .before .before .limits-of-board .ensures) at (c .before .before .before .before .read-within .ensures)
+returns c = c .before .before .before .before .read-within .ensures
 
 pub read-spec : {M : Type 1} → statement M
-read-spec =
-    tie.close
-    (tie.spec limits-of-board-requires read-within-requires same-length same-length-2 returns)
+read-spec = tie.close (tie.spec read-within-requires same-length same-length-2 returns)

@@ -12,14 +12,14 @@ use Rattle.handlers.proofs.Machine.chain.Statement.{statement}
 use Rattle.handlers.proofs.Machine.chain.Tie as tie
 
 -- Past question 8 the machine is sound.
-sound-here : (c : tie.Else2) → soundOf (c .before .before .before .before .before .before .args .t1) ≡ true
+sound-here : (c : tie.Else2) → soundOf (c .before .before .before .before .before .before .args .self) ≡ true
 sound-here c =
     capture-sound _ (c .before .before .capture .ensures) (sound-stack _ (c .before .before .before .before .before .stack-sound .ensures) (c .before .before .before .before .if1 .left)) (c .if2 .left)
 
-few : (c : tie.Else3) → c .before .before .before .before .before .before .before .args .t1 .depth ≤ 15
-few c = facts _ (sound-here (c .before)) .stack .few
+few : (c : tie.Else3) → c .before .before .before .before .before .before .before .before .args .self .depth ≤ 15
+few c = facts _ (sound-here (c .before .before)) .stack .few
 
-some : (c : tie.Else3) → 0 < c .before .before .before .before .before .before .before .args .t1 .depth
+some : (c : tie.Else3) → 0 < c .before .before .before .before .before .before .before .before .args .self .depth
 some c = omega (arith, c .if3 .left)
 
 stack-sound-requires : tie.Need-stack-sound-requires
@@ -48,48 +48,21 @@ refuse-requires-3 c κs = search needs
 
 returns-3 : tie.Need-returns-3
 unfolding chainOf
-returns-3 c = rw (sound-here (c .before .before), le-ltb 0 (c .before .before .before .before .before .before .before .before .args .t1 .depth) (omega (arith, c .before .if3 .taken))) (c .refuse3 .ensures)
+returns-3 c = rw (sound-here (c .before .before .before), le-ltb 0 (c .before .before .before .before .before .before .before .before .before .args .self .depth) (omega (arith, c .before .if3 .taken))) (c .refuse3 .ensures)
 
 refuse-requires-4 : tie.Need-refuse-requires-4
 refuse-requires-4 c κs = search needs
 
 returns-4 : tie.Need-returns-4
 unfolding chainOf
-returns-4 c = rw (sound-here (c .before .before .before), lt-ltb 0 _ (some (c .before .before)), ne-eqb _ _ (c .before .if4 .taken)) (c .refuse4 .ensures)
+returns-4 c = rw (sound-here (c .before .before .before .before .before), lt-ltb 0 _ (some (c .before .before .before)), ne-eqb _ _ (c .before .if4 .taken)) (c .refuse4 .ensures)
 
-sub-h : tie.Need-sub-h
-sub-h c = search needs
-
-mul-h : tie.Need-mul-h
-mul-h c = let b = few (c .before) in record { fits = omega (arith, b) }
-
-element-copy-out-h : tie.Need-element-copy-out-h
-element-copy-out-h c = omega (arith, few (c .before), some (c .before))
-
-sub-h-2 : tie.Need-sub-h-2
-sub-h-2 c = search needs
-
-mul-h-2 : tie.Need-mul-h-2
-mul-h-2 c = let b = few (c .before .before .before .before .before .before .before .before) in record { fits = omega (arith, b) }
-
-element-set-from-h : tie.Need-element-set-from-h
-element-set-from-h c = omega (arith, few (c .before .before .before .before .before .before .before .before), some (c .before .before .before .before .before .before .before .before))
-
-accept-requires : tie.Need-accept-requires
-accept-requires c κs = search needs
+follow-requires : tie.Need-follow-requires
+follow-requires c κs = (some (c .before .before), few (c .before .before), c .before .before .before .before .before .before .capture .ensures)
 
 returns-5 : tie.Need-returns-5
 unfolding chainOf
-returns-5 c =
-    rw (sound-here (c .before .before .before .before .before .before .before .before .before .before), lt-ltb 0 _ (some (c .before .before .before .before .before .before .before .before .before)), eq-eqb _ _ (c .before .before .before .before .before .before .before .before .if4 .left), ← c .before .before .before .before .before .before .before .before .before .before .before .before .capture .ensures, c .before .if5 .taken) (c .accept .ensures)
-
-accept-requires-2 : tie.Need-accept-requires-2
-accept-requires-2 c κs = search needs
-
-returns-6 : tie.Need-returns-6
-unfolding chainOf
-returns-6 c =
-    rw (sound-here (c .before .before .before .before .before .before .before .before .before .before), lt-ltb 0 _ (some (c .before .before .before .before .before .before .before .before .before)), eq-eqb _ _ (c .before .before .before .before .before .before .before .before .if4 .left), ← c .before .before .before .before .before .before .before .before .before .before .before .before .capture .ensures, c .before .if5 .left) (c .accept2 .ensures)
+returns-5 c = rw (sound-here (c .before .before .before .before .before), lt-ltb 0 _ (some (c .before .before .before)), eq-eqb _ _ (c .before .if4 .left)) (c .follow .ensures)
 
 pub chain-spec : {M : Type 1} → statement M
 chain-spec =
@@ -105,13 +78,5 @@ chain-spec =
     returns-3
     refuse-requires-4
     returns-4
-    sub-h
-    mul-h
-    element-copy-out-h
-    sub-h-2
-    mul-h-2
-    element-set-from-h
-    accept-requires
-    returns-5
-    accept-requires-2
-    returns-6)
+    follow-requires
+    returns-5)

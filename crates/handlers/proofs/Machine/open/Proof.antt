@@ -12,13 +12,13 @@ use Rattle.handlers.proofs.Machine.open.Statement.{statement}
 use Rattle.handlers.proofs.Machine.open.Tie as tie
 
 -- Past question 8 the machine is sound.
-sound-here : (c : tie.Else1) → soundOf (c .before .before .args .t1) ≡ true
+sound-here : (c : tie.Else1) → soundOf (c .before .before .args .self) ≡ true
 sound-here c = is-sound _ (c .before .is-sound .ensures) (c .if1 .left)
 
-few : (c : tie.Else2) → c .before .before .before .args .t1 .depth ≤ 15
-few c = facts _ (sound-here (c .before)) .stack .few
+few : (c : tie.Else2) → c .before .before .before .before .args .self .depth ≤ 15
+few c = facts _ (sound-here (c .before .before)) .stack .few
 
-some : (c : tie.Else2) → 0 < c .before .before .before .args .t1 .depth
+some : (c : tie.Else2) → 0 < c .before .before .before .before .args .self .depth
 some c = omega (arith, c .if2 .left)
 
 is-sound-requires : tie.Need-is-sound-requires
@@ -36,35 +36,20 @@ refuse-requires-2 c κs = search needs
 
 returns-2 : tie.Need-returns-2
 unfolding openOf
-returns-2 c = rw (sound-here (c .before .before), le-ltb 0 (c .before .before .before .before .args .t1 .depth) (omega (arith, c .before .if2 .taken))) (c .refuse2 .ensures)
+returns-2 c = rw (sound-here (c .before .before .before), le-ltb 0 (c .before .before .before .before .before .args .self .depth) (omega (arith, c .before .if2 .taken))) (c .refuse2 .ensures)
 
-sub-h : tie.Need-sub-h
-sub-h c = search needs
-
-mul-h : tie.Need-mul-h
-mul-h c = let b = few c in record { fits = omega (arith, b) }
-
-element-copy-out-h : tie.Need-element-copy-out-h
-element-copy-out-h c = omega (arith, few c, some c)
+top-requires : tie.Need-top-requires
+top-requires c κs = few c
 
 refuse-requires-3 : tie.Need-refuse-requires-3
 refuse-requires-3 c κs = search needs
 
 returns-3 : tie.Need-returns-3
 unfolding openOf
-returns-3 c = rw (sound-here (c .before .before .before .before .before), lt-ltb 0 _ (some (c .before .before .before .before)), ne-eqb _ _ (c .before .if3 .taken)) (c .refuse3 .ensures)
+returns-3 c = rw (sound-here (c .before .before .before .before .before .before), lt-ltb 0 _ (some (c .before .before .before .before)), ← c .before .before .before .top .ensures, ne-eqb _ _ (c .before .if3 .taken)) (c .refuse3 .ensures)
 
-with-current-requires : tie.Need-with-current-requires
-with-current-requires c κs = search needs
-
-sub-h-2 : tie.Need-sub-h-2
-sub-h-2 c = search needs
-
-mul-h-2 : tie.Need-mul-h-2
-mul-h-2 c = let b = few (c .before .before .before .before .before .before) in record { fits = omega (arith, b) }
-
-element-set-from-h : tie.Need-element-set-from-h
-element-set-from-h c = omega (arith, few (c .before .before .before .before .before .before), some (c .before .before .before .before .before .before))
+mark-requires : tie.Need-mark-requires
+mark-requires c κs = (some (c .before .before .before), few (c .before .before .before), c .before .before .top .ensures)
 
 cast-accept : tie.Need-cast-accept
 cast-accept c = search needs
@@ -74,7 +59,9 @@ accept-requires c κs = search needs
 
 returns-4 : tie.Need-returns-4
 unfolding openOf
-returns-4 c = rw (sound-here (c .before .before .before .before .before .before .before .before .before), lt-ltb 0 _ (some (c .before .before .before .before .before .before .before .before)), eq-eqb _ _ (c .before .before .before .before .before .if3 .left), c .accept .ensures, c .before .before .with-current .ensures)
+returns-4 c =
+    let o = rw (c .before .before .before .before .before .top .ensures) at (c .before .before .before .if3 .left) in
+    rw (c .accept .ensures, c .before .before .mark .ensures, c .before .before .before .before .before .top .ensures, sound-here (c .before .before .before .before .before .before .before .before), lt-ltb 0 _ (some (c .before .before .before .before .before .before)), eq-eqb _ _ o)
 
 pub open-spec : {M : Type 1} → statement M
 open-spec =
@@ -85,15 +72,10 @@ open-spec =
     returns
     refuse-requires-2
     returns-2
-    sub-h
-    mul-h
-    element-copy-out-h
+    top-requires
     refuse-requires-3
     returns-3
-    with-current-requires
-    sub-h-2
-    mul-h-2
-    element-set-from-h
+    mark-requires
     cast-accept
     accept-requires
     returns-4)

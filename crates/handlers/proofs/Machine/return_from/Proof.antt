@@ -1,7 +1,8 @@
 use Prim.Native.Nat.{_≤_, _<_}
-use mathlib.Core.Path.{_≡_}
+use mathlib.Core.Path.{_≡_, ap}
 use mathlib.Core.Bool.{true}
 use native.Mathlib.Omega.{arith}
+use Rattle.stack.specs.declared.Handler.{Handler}
 use Rattle.handlers.specs.Machines.{soundOf}
 use Rattle.handlers.proofs.Facts.{facts}
 use Rattle.handlers.proofs.Answers.{unsound, is-sound}
@@ -12,13 +13,13 @@ use Rattle.handlers.proofs.Machine.return_from.Statement.{statement}
 use Rattle.handlers.proofs.Machine.return_from.Tie as tie
 
 -- Past question 8 the machine is sound.
-sound-here : (c : tie.Else1) → soundOf (c .before .before .args .t1) ≡ true
+sound-here : (c : tie.Else1) → soundOf (c .before .before .args .self) ≡ true
 sound-here c = is-sound _ (c .before .is-sound .ensures) (c .if1 .left)
 
-few : (c : tie.Else2) → c .before .before .before .args .t1 .depth ≤ 15
+few : (c : tie.Else2) → c .before .before .before .args .self .depth ≤ 15
 few c = facts _ (sound-here (c .before)) .stack .few
 
-some : (c : tie.Else2) → 0 < c .before .before .before .args .t1 .depth
+some : (c : tie.Else2) → 0 < c .before .before .before .args .self .depth
 some c = omega (arith, c .if2 .left)
 
 is-sound-requires : tie.Need-is-sound-requires
@@ -36,42 +37,33 @@ refuse-requires-2 c κs = search needs
 
 returns-2 : tie.Need-returns-2
 unfolding returnOf
-returns-2 c = rw (sound-here (c .before .before), le-ltb 0 (c .before .before .before .before .args .t1 .depth) (omega (arith, c .before .if2 .taken))) (c .refuse2 .ensures)
+returns-2 c = rw (sound-here (c .before .before), le-ltb 0 (c .before .before .before .before .args .self .depth) (omega (arith, c .before .if2 .taken))) (c .refuse2 .ensures)
 
 refuse-requires-3 : tie.Need-refuse-requires-3
 refuse-requires-3 c κs = search needs
 
 returns-3 : tie.Need-returns-3
 unfolding returnOf
-returns-3 c = rw (sound-here (c .before .before .before), lt-ltb 0 _ (some (c .before .before)), ne-eqb _ _ (c .before .if3 .taken)) (c .refuse3 .ensures)
+returns-3 c = rw (sound-here (c .before .before .before .before), lt-ltb 0 _ (some (c .before .before .before)), ne-eqb _ _ (c .before .if3 .taken)) (c .refuse3 .ensures)
 
-sub-h : tie.Need-sub-h
-sub-h c = search needs
+top-requires : tie.Need-top-requires
+top-requires c κs = few (c .before .before)
 
-mul-h : tie.Need-mul-h
-mul-h c = let b = few (c .before) in record { fits = omega (arith, b) }
-
-element-copy-out-h : tie.Need-element-copy-out-h
-element-copy-out-h c = omega (arith, few (c .before), some (c .before))
-
-with-current-requires : tie.Need-with-current-requires
-with-current-requires c κs = search needs
-
-sub-self : tie.Need-sub-self
-sub-self c = search needs
+pop-requires : tie.Need-pop-requires
+pop-requires c κs = (some (c .before .before .before), ap (λ (h : Handler). h .saved) (c .top .ensures))
 
 sub-accept : tie.Need-sub-accept
 sub-accept c = search needs
 
 cast-accept : tie.Need-cast-accept
-cast-accept c = let b = few (c .before .before .before .before .before) in record { fits = omega (arith, b) }
+cast-accept c = let b = few (c .before .before .before .before) in record { fits = omega (arith, b) }
 
 accept-requires : tie.Need-accept-requires
 accept-requires c κs = search needs
 
 returns-4 : tie.Need-returns-4
 unfolding returnOf
-returns-4 c = rw (sound-here (c .before .before .before .before .before .before .before), lt-ltb 0 _ (some (c .before .before .before .before .before .before)), eq-eqb _ _ (c .before .before .before .before .before .if3 .left), c .accept .ensures, c .before .with-current .ensures)
+returns-4 c = rw (sound-here (c .before .before .before .before .before .before), lt-ltb 0 _ (some (c .before .before .before .before .before)), eq-eqb _ _ (c .before .before .before .if3 .left), c .accept .ensures, c .before .pop .ensures)
 
 pub return-from-spec : {M : Type 1} → statement M
 return-from-spec =
@@ -84,11 +76,8 @@ return-from-spec =
     returns-2
     refuse-requires-3
     returns-3
-    sub-h
-    mul-h
-    element-copy-out-h
-    with-current-requires
-    sub-self
+    top-requires
+    pop-requires
     sub-accept
     cast-accept
     accept-requires

@@ -1,8 +1,7 @@
-use mathlib.Core.Bool.{_||_}
+use mathlib.Core.Bool.{_||_, true}
 use lib.Dec.{eqb}
 use Prim.Native.Nat.{_≤_}
 use mathlib.Core.Path.{_≡_}
-use mathlib.Core.Bool.{true}
 use Rattle.handlers.specs.Machines.{soundOf}
 use Rattle.handlers.proofs.Facts.{facts}
 use Rattle.handlers.proofs.Answers.{unsound, is-sound}

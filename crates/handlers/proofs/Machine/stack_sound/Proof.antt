@@ -17,7 +17,7 @@ handlers-sound-requires c κs = search needs
 
 returns-2 : tie.Need-returns-2
 returns-2 c =
-    rw (c .before .before .before .handlers-sound .ensures, c .before .before .before .before .before .before .level .ensures, c .before .before .before .before .before .before .before .top .ensures) (stack-tested (c .before .before .before .before .before .before .before .before .before .args .self) (c .before .before .before .before .before .before .before .before .if1 .left))
+    rw (c .before .before .before .handlers-sound .ensures, c .before .before .before .before .before .before .before .level .ensures, c .before .before .before .before .before .before .before .before .top .ensures) (stack-tested (c .before .before .before .before .before .before .before .before .before .before .args .self) (c .before .before .before .before .before .before .before .before .before .if1 .left))
 
 pub stack-sound-spec : {M : Type 1} → statement M
 stack-sound-spec =

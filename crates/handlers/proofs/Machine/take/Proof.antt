@@ -8,6 +8,7 @@ use lib.IntN.{pos}
 use lib.Signed.{ltZ}
 use borrow.Author.Tests.{not-true, not-false, eq-eqb, ne-eqb}
 use Rattle.pic.specs.declared.Capture.{Capture}
+use Rattle.pic.specs.Calls.{captureOf}
 use Rattle.handlers.specs.Machines.{soundOf}
 use Rattle.handlers.specs.Service.{takeOf}
 use Rattle.handlers.proofs.Facts.{facts, room}
@@ -16,18 +17,20 @@ use borrow.Author.Needs.{needs}
 use Rattle.handlers.proofs.Machine.take.Statement.{statement}
 use Rattle.handlers.proofs.Machine.take.Tie as tie
 
--- Where the margin is above 0 and the mask on: the machine is sound, and there is a place for one handler more.
-sound-here : (c : tie.Else2) → soundOf (c .before .before .before .before .before .before .args .t1) ≡ true
+-- Past question 8 the machine is sound.
+sound-here : (c : tie.Else2) → soundOf (c .before .before .before .before .before .before .args .self) ≡ true
 sound-here c =
     capture-sound _ (c .before .before .capture .ensures) (sound-stack _ (c .before .before .before .before .before .stack-sound .ensures) (c .before .before .before .before .if1 .left)) (c .if2 .left)
 
-above : (c : tie.After-is-above) → c .is-above .result ≡ ltZ (pos 0) (c .before .before .before .before .before .capture .result .margin)
-above c = c .is-above .ensures ∙ ap (ltZ (pos 0)) (toZ-ofZ {w = w32} {z = c .before .before .before .before .before .capture .result .margin} (search needs))
+above : (c : tie.After-is-above) → c .is-above .result ≡ ltZ (pos 0) (c .before .before .before .before .before .before .capture .result .margin)
+above c = c .is-above .ensures ∙ ap (ltZ (pos 0)) (toZ-ofZ {w = w32} {z = c .before .before .before .before .before .before .capture .result .margin} (search needs))
 
-place : (c : tie.Else4) → c .before .before .before .before .before .before .before .before .before .before .args .t1 .depth < 15
-place c =
-    room _ (facts _ (sound-here (c .before .before .before .before))) (λ e. one (c .before .before .before .if3 .left) e)
-    (ap (λ (o : Capture). ltZ (pos 0) (o .margin)) (sym (c .before .before .before .before .before .before .capture .ensures)) ∙ sym (above (c .before)) ∙ not-false _ (c .if4 .left))
+-- Past question 16 the margin is above 0, and with the mask on there is a place for one handler more.
+over : (c : tie.Else4) → ltZ (pos 0) (captureOf (c .before .before .before .before .before .before .before .before .before .before .before .args .self .controller) .margin) ≡ true
+over c = ap (λ (o : Capture). ltZ (pos 0) (o .margin)) (sym (c .before .before .before .before .before .before .before .capture .ensures)) ∙ sym (above (c .before)) ∙ not-false _ (c .if4 .left)
+
+place : (c : tie.Else4) → c .before .before .before .before .before .before .before .before .before .before .before .args .self .depth < 15
+place c = room _ (facts _ (sound-here (c .before .before .before .before .before))) (λ e. one (c .before .before .before .if3 .left) e) (over c)
   where
     one : {n : ℕ} → n ≡ 1 → n ≡ 0 → ⊥
     one e f = omega arith
@@ -58,7 +61,7 @@ refuse-requires-3 c κs = search needs
 
 returns-3 : tie.Need-returns-3
 unfolding takeOf
-returns-3 c = rw (sound-here (c .before .before), ne-eqb _ _ (c .before .if3 .taken)) (c .refuse3 .ensures)
+returns-3 c = rw (sound-here (c .before .before .before), ne-eqb _ _ (c .before .if3 .taken)) (c .refuse3 .ensures)
 
 is-above-requires : tie.Need-is-above-requires
 is-above-requires c κs = search needs
@@ -69,16 +72,10 @@ refuse-requires-4 c κs = search needs
 returns-4 : tie.Need-returns-4
 unfolding takeOf
 returns-4 c =
-    rw (sound-here (c .before .before .before .before .before), eq-eqb _ _ (c .before .before .before .before .if3 .left), ← c .before .before .before .before .before .before .before .capture .ensures, ← above (c .before .before), not-true (c .before .before .is-above .result) (c .before .if4 .taken)) (c .refuse4 .ensures)
+    rw (sound-here (c .before .before .before .before .before .before), eq-eqb _ _ (c .before .before .before .before .if3 .left), ← c .before .before .before .before .before .before .before .before .capture .ensures, ← above (c .before .before), not-true (c .before .before .is-above .result) (c .before .if4 .taken)) (c .refuse4 .ensures)
 
-mul-t19 : tie.Need-mul-t19
-mul-t19 c = let b = place (c .before .before .before .before) in record { fits = omega (arith, b) }
-
-element-set-from-self : tie.Need-element-set-from-self
-element-set-from-self c = place (c .before .before .before .before)
-
-add-self : tie.Need-add-self
-add-self c = let b = place (c .before .before .before .before) in record { fits = omega (arith, b) }
+push-requires : tie.Need-push-requires
+push-requires c κs = (place c, c .before .before .before .before .before .before .before .capture .ensures)
 
 accept-requires : tie.Need-accept-requires
 accept-requires c κs = search needs
@@ -86,7 +83,7 @@ accept-requires c κs = search needs
 returns-5 : tie.Need-returns-5
 unfolding takeOf
 returns-5 c =
-    rw (sound-here (c .before .before .before .before .before .before .before .before .before), eq-eqb _ _ (c .before .before .before .before .before .before .before .before .if3 .left), ← c .before .before .before .before .before .before .before .before .before .before .before .capture .ensures, ← above (c .before .before .before .before .before .before), not-false (c .before .before .before .before .before .before .is-above .result) (c .before .before .before .before .before .if4 .left)) (c .accept .ensures)
+    rw (sound-here (c .before .before .before .before .before .before .before), eq-eqb _ _ (c .before .before .before .before .before .if3 .left), over (c .before .before), c .accept .ensures, c .before .push .ensures, c .before .before .before .before .before .before .before .before .before .capture .ensures)
 
 pub take-spec : {M : Type 1} → statement M
 take-spec =
@@ -103,8 +100,6 @@ take-spec =
     is-above-requires
     refuse-requires-4
     returns-4
-    mul-t19
-    element-set-from-self
-    add-self
+    push-requires
     accept-requires
     returns-5)

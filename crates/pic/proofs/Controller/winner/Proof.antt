@@ -23,38 +23,29 @@ loop-holds c = search needs
 add-s : tie.Need-add-s Inv-loop μ-loop
 add-s c = search needs
 
-element-copy-out-pending : tie.Need-element-copy-out-pending Inv-loop μ-loop
-element-copy-out-pending c = search needs
+cast-candidate : tie.Need-cast-candidate Inv-loop μ-loop
+cast-candidate c = search needs
 
-element-copy-out-pending-2 : tie.Need-element-copy-out-pending-2 Inv-loop μ-loop
-element-copy-out-pending-2 c = search needs
+element-copy-out-candidate : tie.Need-element-copy-out-candidate Inv-loop μ-loop
+element-copy-out-candidate c = search needs
 
-element-copy-out-pending-3 : tie.Need-element-copy-out-pending-3 Inv-loop μ-loop
-element-copy-out-pending-3 c = search needs
+element-copy-out-candidate-2 : tie.Need-element-copy-out-candidate-2 Inv-loop μ-loop
+element-copy-out-candidate-2 c = search needs
 
-element-copy-out-pending-4 : tie.Need-element-copy-out-pending-4 Inv-loop μ-loop
-element-copy-out-pending-4 c = search needs
+element-copy-out-candidate-3 : tie.Need-element-copy-out-candidate-3 Inv-loop μ-loop
+element-copy-out-candidate-3 c = search needs
 
-pending-requires : tie.Need-pending-requires Inv-loop μ-loop
-pending-requires c κs = search needs
+element-copy-out-candidate-4 : tie.Need-element-copy-out-candidate-4 Inv-loop μ-loop
+element-copy-out-candidate-4 c = search needs
 
-element-copy-out-eligible : tie.Need-element-copy-out-eligible Inv-loop μ-loop
-element-copy-out-eligible c = search needs
+element-copy-out-candidate-5 : tie.Need-element-copy-out-candidate-5 Inv-loop μ-loop
+element-copy-out-candidate-5 c = search needs
 
-element-copy-out-eligible-2 : tie.Need-element-copy-out-eligible-2 Inv-loop μ-loop
-element-copy-out-eligible-2 c = search needs
+element-copy-out-candidate-6 : tie.Need-element-copy-out-candidate-6 Inv-loop μ-loop
+element-copy-out-candidate-6 c = search needs
 
-eligible-requires : tie.Need-eligible-requires Inv-loop μ-loop
-eligible-requires c κs = search needs
-
-cast-entry : tie.Need-cast-entry Inv-loop μ-loop
-cast-entry c = search needs
-
-element-copy-out-entry : tie.Need-element-copy-out-entry Inv-loop μ-loop
-element-copy-out-entry c = search needs
-
-entry-requires : tie.Need-entry-requires Inv-loop μ-loop
-entry-requires c κs = search needs
+candidate-requires : tie.Need-candidate-requires Inv-loop μ-loop
+candidate-requires c κs = search needs
 
 better-requires : tie.Need-better-requires Inv-loop μ-loop
 better-requires c κs = search needs
@@ -63,8 +54,7 @@ loop-less : tie.Need-loop-less Inv-loop μ-loop
 loop-less c = search needs
 
 loop-again : tie.Need-loop-again Inv-loop μ-loop
-loop-again c =
-    (search needs, search needs, search needs, winner-turn _ _ (c .before .before .before .before .before .before .before .before .before .before .before .before .loop .inv .3) (c .before .before .before .before .before .before .pending .ensures) (c .before .before .before .eligible .ensures) (c .before .entry .ensures) (c .better .ensures))
+loop-again c = (search needs, search needs, search needs, winner-turn _ _ (c .before .before .before .before .before .before .before .before .before .loop .inv .3) (c .before .candidate .ensures) (c .better .ensures))
 
 returns : tie.Need-returns Inv-loop μ-loop
 returns c = let e : c .before .loop .s ≡ c .before .before .args .t1 .sources = omega arith in rw e at (c .before .loop .inv .3)
@@ -78,17 +68,14 @@ winner-spec =
     cast-n
     loop-holds
     add-s
-    element-copy-out-pending
-    element-copy-out-pending-2
-    element-copy-out-pending-3
-    element-copy-out-pending-4
-    pending-requires
-    element-copy-out-eligible
-    element-copy-out-eligible-2
-    eligible-requires
-    cast-entry
-    element-copy-out-entry
-    entry-requires
+    cast-candidate
+    element-copy-out-candidate
+    element-copy-out-candidate-2
+    element-copy-out-candidate-3
+    element-copy-out-candidate-4
+    element-copy-out-candidate-5
+    element-copy-out-candidate-6
+    candidate-requires
     better-requires
     loop-less
     loop-again

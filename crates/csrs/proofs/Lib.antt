@@ -1,0 +1,2 @@
+-- Laws of the control and status registers.
+pub mod Addresses

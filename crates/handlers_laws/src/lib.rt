@@ -1,0 +1,1 @@
+// No code: laws of the machine's events, for the layers above.

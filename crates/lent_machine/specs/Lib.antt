@@ -1,0 +1,2 @@
+-- The rule of an event on a lent machine.
+pub mod Lend

@@ -1,0 +1,2 @@
+-- Bench points, as one table about the rules.
+pub mod Points

@@ -1,0 +1,1 @@
+// No code: the bench points are in specs/, their proofs in proofs/.

@@ -1,0 +1,4 @@
+-- The rules of the memory-mapped registers and of the samples.
+pub mod Offsets
+pub mod Registers
+pub mod Calls

@@ -1,0 +1,2 @@
+-- Laws of the stack of handlers.
+pub mod Stacks

@@ -1,0 +1,2 @@
+-- The rules of the stack of handlers.
+pub mod Stacks

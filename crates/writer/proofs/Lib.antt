@@ -1,0 +1,3 @@
+-- Laws of the writer: words stored as bytes, the verdict and what is left.
+mod Stores
+mod Answers
