@@ -10,13 +10,12 @@ use lib.Signed.{ltZ}
 use borrow.Author.Tests.{leb-true, ltb-true, eqb-true, le-leb, eq-eqb}
 use Rattle.source.specs.declared.Rank.{Rank}
 use Rattle.pic.specs.declared.Capture.{Capture}
-use Rattle.pic.specs.Sources.{winnerOf, marginOf}
-use Rattle.source.specs.Sources.{higherOf}
+use Rattle.pic.specs.Sources.{winnerOf, marginOf, higherOf}
 use Rattle.pic.specs.Sound as pic
 use Rattle.pic.specs.Calls as calls
 use Rattle.pic.proofs.Soundness.{facts as pic-facts}
 use Rattle.pic.proofs.Winning.{winner-small}
-use Rattle.source.proofs.Larger.{higher-is}
+use Rattle.pic.proofs.Larger.{higher-is}
 use Rattle.pic.proofs.Margins.{margin-above}
 use Rattle.pic_laws.proofs.Kept.{capture-is}
 use Rattle.source.proofs.Bools.{and-parts, or-cases, or-intro}

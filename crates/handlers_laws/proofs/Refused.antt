@@ -3,7 +3,6 @@ use Prim.Native.Nat.{ℕ}
 use mathlib.Core.Path.{_≡_, refl, ap}
 use mathlib.Core.Bool.{false}
 use Rattle.pic.specs.declared.Outcome as controller
-use Rattle.pic.specs.Calls as calls
 use Rattle.pic_laws.proofs.Kept.{sample-refused, store-refused, csr-write-refused, load-same, csr-read-same}
 use Rattle.handlers.specs.declared.Machine.{Machine}
 use Rattle.handlers.specs.Fields.{withController}

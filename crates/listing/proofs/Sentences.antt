@@ -6,7 +6,7 @@ use Prim.Native.Nat.{ℕ, zero, suc, _+_, _<_}
 use native.Mathlib.Nat.{add-zero, add-suc, suc-add, suc-ne-zero}
 use native.Mathlib.Omega.{arith}
 use mathlib.Core.List.{List, [], _∷_, _++_}
-use borrow.Author.Tests.{eqb-true, eqb-false}
+use borrow.Author.Tests.{eq-eqb, ne-eqb, eqb-true, eqb-false}
 use lib.Dec.{eqb}
 use lib.ListN.{length, getD, length-append}
 use Rattle.listing.specs.Lines.{lineFeed, before, after, onto, linesIn, linesOf}
@@ -174,3 +174,14 @@ good-from k (line ∷ lines) h e j l =
 
 pub all-good : (text : List ℕ) → firstBad text ≡ 0 → (j : ℕ) → j < length (linesOf text) → isGood (1 + j) (getD (linesOf text) j []) ≡ true
 all-good text e = good-from 1 (linesOf text) (λ z. omega arith) e
+
+-- Before the mark that follows a list without it stands the list, and after it the rest.
+pub before-free : (mark : ℕ) {xs : List ℕ} (rest : List ℕ) → Free mark xs → before mark (xs ++ mark ∷ rest) ≡ xs
+unfolding before
+before-free mark rest empty = rw (eq-eqb mark mark refl)
+before-free mark rest (other {byte} h xs) = rw (ne-eqb byte mark h) (ap (λ (l : List ℕ). byte ∷ l) (before-free mark rest xs))
+
+pub after-free : (mark : ℕ) {xs : List ℕ} (rest : List ℕ) → Free mark xs → after mark (xs ++ mark ∷ rest) ≡ rest
+unfolding after
+after-free mark rest empty = rw (eq-eqb mark mark refl)
+after-free mark rest (other {byte} h xs) = rw (ne-eqb byte mark h) (after-free mark rest xs)

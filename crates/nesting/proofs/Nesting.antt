@@ -69,10 +69,6 @@ module _ (P : Machine) (L : Laws P) where
   abbrev rankIn : HandlerOf P → Rank
   rankIn h = h .rank
 
-  -- No rank in range is below itself.
-  pub below-strict : (a : Rank) → InRange P a → Below a a → ⊥
-  below-strict a r h = omega (arith, L .below-height a a r r h)
-
   -- A handler on the stack, that of the taking `t`, whose source was the one to serve.
   record StandsWon (h : HandlerOf P) (t : Place (Step P)) : Type 0 where
     stands : Stands P h t

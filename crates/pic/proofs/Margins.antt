@@ -4,10 +4,9 @@ use lib.Dec.{ltb}
 use lib.IntN.{pos}
 use lib.Signed.{ltZ}
 use Rattle.pic.specs.declared.Controller.{Controller}
-use Rattle.source.specs.Sources.{higherOf, gapOf}
-use Rattle.pic.specs.Sources.{winnerOf, marginOf}
-use Rattle.source.proofs.Gap.{Small, gap-small, above}
-use Rattle.source.proofs.Larger.{higher-is}
+use Rattle.pic.specs.Sources.{higherOf, gapOf, winnerOf, marginOf}
+use Rattle.pic.proofs.Gap.{Small, gap-small, above}
+use Rattle.pic.proofs.Larger.{higher-is}
 use Rattle.pic.proofs.Soundness.{Sound}
 use Rattle.pic.proofs.Winning.{winner-small}
 

@@ -13,8 +13,7 @@ use Rattle.pic.specs.declared.Controller.{Controller}
 use Rattle.source.specs.Sources.{isActive, latchAfter}
 use Rattle.pic.specs.Fields.{withLatch}
 use Rattle.pic.specs.Sources.{rankAt, enableAt, triggerAt, polarityAt, lineAt, latchAt, settle, latchesTo}
-use Rattle.pic.specs.Sound.{placeTests, sourceSoundAt, sourcesSound, soundTests, soundOf}
-use Rattle.source.specs.Sound.{sourceTests, sourceSound}
+use Rattle.pic.specs.Sound.{placeTests, sourceSoundAt, sourcesSound, soundTests, soundOf, sourceTests, sourceSound}
 use Rattle.source.proofs.Bools.{and-parts, or-cases, eq-cases, all-at}
 use Rattle.pic.proofs.Latches.{length-latches, latch-in, latches-same, after-after}
 

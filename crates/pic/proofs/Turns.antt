@@ -3,10 +3,9 @@ use Prim.Native.Nat.{ℕ, _+_}
 use mathlib.Core.Path.{_≡_}
 use mathlib.Core.Bool.{Bool, _&&_}
 use native.Mathlib.Numerals.{add-one}
-use Rattle.source.specs.declared.Winner.{Winner}
-use Rattle.source.specs.Sources.{entryOf, betterOf}
+use Rattle.pic.specs.declared.Winner.{Winner}
+use Rattle.pic.specs.Sources.{entryOf, betterOf, rankAt, eligibleAt, winnerTo}
 use Rattle.pic.specs.declared.Controller.{Controller}
-use Rattle.pic.specs.Sources.{rankAt, eligibleAt, winnerTo}
 use Rattle.pic.specs.Sound.{sourceSoundAt, sourcesSound}
 
 pub winner-turn : (c : Controller) (s : ℕ) {w w′ e : Winner}

@@ -8,10 +8,9 @@ use lib.Dec.{leb, ltb, eqb}
 use borrow.Author.Tests.{ltb-true, ltb-false, leb-true, le-ltb, le-leb, eq-eqb}
 use Rattle.pic.specs.declared.Controller.{Controller}
 use Rattle.source.specs.declared.Rank.{Rank}
-use Rattle.source.specs.declared.Winner.{Winner}
+use Rattle.pic.specs.declared.Winner.{Winner}
 use Rattle.source.specs.Ranks.{rank}
-use Rattle.pic.specs.Sources.{rankAt, enableAt, pendingAt, eligibleAt, winnerTo, winnerOf, Eligible, Before, IsWinner}
-use Rattle.source.specs.Sources.{isEligible, entryOf, betterOf}
+use Rattle.pic.specs.Sources.{rankAt, enableAt, pendingAt, eligibleAt, winnerTo, winnerOf, Eligible, Before, IsWinner, isEligible, entryOf, betterOf}
 use Rattle.source.proofs.Bools.{never, and-parts, eq-cases}
 use Rattle.pic.proofs.Soundness.{Sound}
 

@@ -3,12 +3,11 @@ use Prim.Native.Nat.{ℕ, _+_, _*_}
 use mathlib.Core.Bool.{Bool, false, cond}
 use lib.Dec.{ltb}
 use lib.IntN.{pos}
-use Rattle.source.specs.Sources.{nobody}
+use Rattle.pic.specs.Sources.{nobody, settle, winnerOf, marginOf, captured}
 use Rattle.pic.specs.declared.Controller.{Controller}
 use Rattle.pic.specs.declared.Outcome.{Outcome}
 use Rattle.pic.specs.declared.Margin.{Margin}
 use Rattle.pic.specs.declared.Capture.{Capture}
-use Rattle.pic.specs.Sources.{settle, winnerOf, marginOf, captured}
 use Rattle.pic.specs.Sound.{initial, isCount, soundOf}
 
 -- An accepted event hands back a controller and its answer, with no refusal.

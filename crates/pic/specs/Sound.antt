@@ -1,12 +1,12 @@
 -- Document 01, "What a machine holds", the controller's part: power-on, and when a controller is sound.
 use Prim.Native.Nat.{ℕ, zero, suc, _%_, _^_}
-use mathlib.Core.Bool.{Bool, true, _&&_}
+use mathlib.Core.Bool.{Bool, true, _&&_, _||_}
 use mathlib.Core.List.{List, [], _∷_}
 use lib.ListN.{length, replicate}
 use lib.Dec.{leb, ltb, eqb}
 use Rattle.pic.specs.declared.Controller.{Controller}
 use Rattle.source.specs.Ranks.{rank}
-use Rattle.source.specs.Sound.{all, sourceSound}
+use Rattle.source.specs.Tests.{all}
 use Rattle.pic.specs.Sources.{rankAt, enableAt, triggerAt, polarityAt, lineAt, latchAt}
 
 -- Power-on with N sets all else to 0.
@@ -44,6 +44,20 @@ placeTests c =
     ∷ []
 
 -- The values of a source are in range, and its latch is set if its line is active.
+abbrev pub sourceTests : ℕ → ℕ → ℕ → ℕ → ℕ → ℕ → List Bool
+sourceTests rank enable trigger polarity line latch =
+    leb rank 15
+    ∷ leb enable 1
+    ∷ leb trigger 1
+    ∷ leb polarity 1
+    ∷ leb line 1
+    ∷ leb latch 1
+    ∷ (eqb line polarity || eqb latch 1)
+    ∷ []
+
+unfoldable pub sourceSound : ℕ → ℕ → ℕ → ℕ → ℕ → ℕ → Bool
+sourceSound rank enable trigger polarity line latch = all (sourceTests rank enable trigger polarity line latch)
+
 abbrev pub sourceSoundAt : Controller → ℕ → Bool
 sourceSoundAt c s = sourceSound (rankAt c s .0) (enableAt c s) (triggerAt c s) (polarityAt c s) (lineAt c s) (latchAt c s)
 

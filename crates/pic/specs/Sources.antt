@@ -2,16 +2,17 @@
 use Prim.Native.Nat.{ℕ, zero, suc, _≤_, _<_}
 use mathlib.Core.Path.{_≡_}
 use mathlib.Core.Logic.{_⊎_}
-use mathlib.Core.Bool.{Bool, true}
+use mathlib.Core.Bool.{Bool, true, cond, _&&_}
 use mathlib.Core.List.{List}
 use lib.ListN.{getD, set}
-use lib.IntN.{ℤ}
+use lib.Dec.{leb, ltb, eqb}
+use lib.IntN.{ℤ, pos, _-ℤ_}
 use Rattle.pic.specs.declared.Controller.{Controller}
 use Rattle.source.specs.declared.Rank.{Rank}
-use Rattle.source.specs.declared.Winner.{Winner}
+use Rattle.pic.specs.declared.Winner.{Winner}
 use Rattle.pic.specs.Fields.{withLatch, withClaim, withClaimed}
 use Rattle.source.specs.Ranks.{rank}
-use Rattle.source.specs.Sources.{latchAfter, isPending, isEligible, nobody, entryOf, betterOf, higherOf, gapOf}
+use Rattle.source.specs.Sources.{latchAfter, isPending}
 
 -- Rank, enable, type (trigger here), polarity, line and latch of a source.
 abbrev pub rankAt : Controller → ℕ → Rank
@@ -47,12 +48,28 @@ settle c = withLatch c (latchesTo (c .line) (c .polarity) (c .latch) (c .sources
 abbrev pub settleAt : Controller → ℕ → Controller
 settleAt c s = withLatch c (set (c .latch) s (latchAfter (lineAt c s) (polarityAt c s) (latchAt c s)))
 
--- Whether a source is pending, and eligible.
+-- Whether a source is pending.
 abbrev pub pendingAt : Controller → ℕ → Bool
 pendingAt c s = isPending (triggerAt c s) (polarityAt c s) (lineAt c s) (latchAt c s)
 
+-- It is eligible when enabled, pending and of rank 1 or more.
+unfoldable pub isEligible : ℕ → Bool → ℕ → Bool
+isEligible enable pending rank = eqb enable 1 && pending && leb 1 rank
+
 abbrev pub eligibleAt : Controller → ℕ → Bool
 eligibleAt c s = isEligible (enableAt c s) (pendingAt c s) (rankAt c s .0)
+
+-- No source, of rank 0.
+abbrev pub nobody : Winner
+nobody = record { source = 0; rank = rank 0 }
+
+-- A source enters with its number and rank if it is eligible, else as nobody.
+unfoldable pub entryOf : Bool → ℕ → ℕ → Winner
+entryOf eligible s r = cond eligible (record { source = s; rank = rank r }) nobody
+
+-- Of two, the second passes only if its rank is strictly higher.
+unfoldable pub betterOf : Winner → Winner → Winner
+betterOf a b = cond (ltb (a .rank .0) (b .rank .0)) b a
 
 -- The winner (01's word) among the sources 1 to n. `IsWinner` below is 01's sentence about it.
 unfoldable pub winnerTo : Controller → ℕ → Winner
@@ -84,6 +101,14 @@ pub record Idle (c : Controller) (n : ℕ) (w : Winner) : Type 0 where
 
 abbrev pub IsWinner : Controller → ℕ → Winner → Type 0
 IsWinner c n w = Served c n w ⊎ Idle c n w
+
+-- The larger of two ranks.
+unfoldable pub higherOf : Rank → Rank → Rank
+higherOf a b = cond (ltb (a .0) (b .0)) b a
+
+-- One rank minus another, a signed number from −15 to 15.
+unfoldable pub gapOf : Rank → Rank → ℤ
+gapOf a b = pos (a .0) -ℤ pos (b .0)
 
 -- The margin (01's word) is the winner's rank minus the larger of threshold and current, a signed number from −15 to 15.
 abbrev pub marginOf : Controller → ℤ

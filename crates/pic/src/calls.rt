@@ -2,15 +2,14 @@
 
 ghost use mathlib.Core.Path.{_≡_};
 ghost use mathlib.Core.Bool.{true};
-ghost use Rattle.source.specs.Sources.{gapOf, higherOf};
-ghost use Rattle.pic.specs.Sources.{winnerOf};
+ghost use Rattle.pic.specs.Sources.{gapOf, higherOf, winnerOf};
 ghost use Rattle.pic.specs.Sound.{soundOf};
 ghost use Rattle.pic.specs.Calls.{marginAnswer, capturing, notCaptured, captureOf};
 use crate::Capture;
 use crate::Controller;
 use crate::Margin;
+use crate::Winner;
 use source::Rank;
-use source::Winner;
 
 // The larger of two ranks.
 fn higher(a: Rank, b: Rank) -> Rank

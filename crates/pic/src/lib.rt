@@ -5,7 +5,6 @@ mod sound;
 mod sources;
 
 use source::Rank;
-use source::Winner;
 
 // The controller. The arrays are indexed by source number; places 0 and above the number of sources mean nothing.
 pub struct Controller {
@@ -24,6 +23,12 @@ pub struct Controller {
     pub threshold: Rank,
     pub claimed: Rank,
     pub current: Rank,
+}
+
+// A source number and its rank; 0 and rank 0 where there is none.
+pub struct Winner {
+    pub source: u8,
+    pub rank: Rank,
 }
 
 // What an event hands back. A refused one answers 0 and hands back the controller as it was.

@@ -1,9 +1,8 @@
 // Power-on, and whether a controller is sound.
 
 ghost use mathlib.Core.Path.{_≡_};
-ghost use Rattle.source.specs.Sound.{sourceSound};
+ghost use Rattle.pic.specs.Sound.{sourceSound, initial, sourcesSound, soundOf};
 ghost use Rattle.pic.specs.Calls.{powerOnOf};
-ghost use Rattle.pic.specs.Sound.{initial, sourcesSound, soundOf};
 use crate::Controller;
 use crate::Outcome;
 use source::Rank;

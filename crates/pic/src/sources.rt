@@ -1,11 +1,11 @@
 // What enters the comparison of the sources, and the winner.
 
 ghost use mathlib.Core.Path.{_≡_};
-ghost use Rattle.source.specs.Sources.{isPending, isEligible, entryOf, betterOf};
-ghost use Rattle.pic.specs.Sources.{winnerOf};
+ghost use Rattle.source.specs.Sources.{isPending};
+ghost use Rattle.pic.specs.Sources.{isEligible, entryOf, betterOf, winnerOf};
 use crate::Controller;
+use crate::Winner;
 use source::Rank;
-use source::Winner;
 use source::sources::pending;
 
 fn eligible(enable: u8, is_pending: bool, rank: u8) -> bool

@@ -10,13 +10,12 @@ use lib.Signed.{ltZ}
 use borrow.Author.Tests.{ltb-true}
 use Rattle.pic.specs.declared.Controller.{Controller}
 use Rattle.pic.specs.declared.Capture.{Capture}
-use Rattle.source.specs.declared.Winner.{Winner}
-use Rattle.pic.specs.Sources.{Served, IsWinner, winnerOf, marginOf}
-use Rattle.source.specs.Sources.{higherOf}
+use Rattle.pic.specs.declared.Winner.{Winner}
+use Rattle.pic.specs.Sources.{Served, IsWinner, winnerOf, marginOf, higherOf}
 use Rattle.pic.specs.Sound.{soundOf}
 use Rattle.pic.specs.Calls.{captureOf}
 use Rattle.pic_laws.proofs.Kept.{capture-is}
-use Rattle.source.proofs.Larger.{higher-is}
+use Rattle.pic.proofs.Larger.{higher-is}
 use Rattle.pic.proofs.Margins.{margin-above}
 use Rattle.pic.proofs.Soundness.{facts}
 use Rattle.pic.proofs.Winning.{winner-is, winner-small}

@@ -6,7 +6,6 @@ use mathlib.Core.List.{List}
 use native.Mathlib.Omega.{arith}
 use lib.ListN.{set, replicate, length-replicate, getD-replicate}
 use lib.Dec.{leb, eqb}
-use lib.IntN.{pos}
 use borrow.Author.Tests.{leb-true}
 use Rattle.pic.specs.declared.Controller.{Controller}
 use Rattle.pic.specs.declared.Outcome.{Outcome}
@@ -24,7 +23,7 @@ use Rattle.registers.specs.Registers.{bitOf, linesTo, sampled, readOf, writtenR
 use Rattle.csrs.specs.Values.{csrValue, csrWritten}
 use Rattle.registers.specs.Offsets.{registerAt, offsetRefusal}
 use Rattle.csrs.specs.Addresses.{csrAt, isCsr}
-use Rattle.pic.specs.Calls.{handed, accepted, refused, ask, powerOnOf, marginAnswer, capturing, notCaptured, captureOf}
+use Rattle.pic.specs.Calls.{handed, accepted, refused, ask, powerOnOf, capturing, notCaptured, captureOf}
 use Rattle.registers.specs.Calls.{sampleOf, loadOf, storeOf}
 use Rattle.csrs.specs.Calls.{csrReadOf, csrWriteOf}
 use Rattle.source.proofs.Bools.{and-parts}
@@ -346,10 +345,6 @@ module _ (c : Controller) (e : soundOf c ≡ false) where
   pub capture-8 : captureOf c ≡ notCaptured c 8
   unfolding captureOf
   capture-8 = rw e
-
-  pub margin-8 : marginAnswer c ≡ record { margin = pos 0; refusal = 8 }
-  unfolding marginAnswer
-  margin-8 = rw e
 
 -- On a sound controller a capture captures.
 pub capture-is : (c : Controller) → soundOf c ≡ true → captureOf c ≡ capturing c

@@ -5,10 +5,9 @@ use mathlib.Core.List.{List, [], _∷_}
 use lib.IntN.{pos, negsuc}
 use Rattle.pic.specs.declared.Controller.{Controller}
 use Rattle.source.specs.Ranks.{mirror}
-use Rattle.pic.specs.Sources.{latchesTo, winnerTo, winnerOf}
-use Rattle.source.specs.Sources.{isPending, isEligible, entryOf, betterOf, higherOf, gapOf}
-use Rattle.pic.specs.Sound.{initial, sourcesSound, soundOf}
-use Rattle.source.specs.Sound.{sourceSound}
+use Rattle.pic.specs.Sources.{latchesTo, winnerTo, winnerOf, isEligible, entryOf, betterOf, higherOf, gapOf}
+use Rattle.source.specs.Sources.{isPending}
+use Rattle.pic.specs.Sound.{initial, sourcesSound, soundOf, sourceSound}
 use Rattle.registers.specs.Registers.{linesTo, joinOf, pendingTo, readOf, writtenOf}
 use Rattle.csrs.specs.Values.{csrValue, csrWritten}
 use Rattle.registers.specs.Offsets.{sourceRegister, pageRegister, offsetRefusal}

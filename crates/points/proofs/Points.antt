@@ -6,9 +6,9 @@ use mathlib.Core.List.{[], _++_}
 use lib.Dec.{eqb}
 use Rattle.event.specs.Event.{shapeOf}
 use Rattle.source.specs.Ranks.{mirror}
-use Rattle.pic.specs.Sources.{latchesTo, winnerTo}
-use Rattle.source.specs.Sources.{isPending, isEligible, entryOf, betterOf, higherOf, gapOf}
-use Rattle.source.specs.Sound.{sourceSound}
+use Rattle.pic.specs.Sources.{latchesTo, winnerTo, isEligible, entryOf, betterOf, higherOf, gapOf}
+use Rattle.source.specs.Sources.{isPending}
+use Rattle.pic.specs.Sound.{sourceSound}
 use Rattle.pic.specs.Sound as sound
 use Rattle.registers.specs.Registers.{linesTo, joinOf, pendingTo, readOf, writtenRank, writtenOf}
 use Rattle.csrs.specs.Values.{csrValue, csrWritten}

@@ -8,8 +8,7 @@ use lib.ListN.{take as first}
 use lib.IntN.{ℤ, pos}
 use Rattle.source.specs.declared.Rank.{Rank}
 use Rattle.source.specs.Ranks.{rank}
-use Rattle.pic.specs.Sources.{winnerOf}
-use Rattle.source.specs.Sources.{isEligible}
+use Rattle.pic.specs.Sources.{winnerOf, isEligible}
 use Rattle.registers.specs.Registers.{writtenRank}
 use Rattle.stack.specs.declared.Handler.{Handler}
 use Rattle.handlers.specs.declared.Machine.{Machine}

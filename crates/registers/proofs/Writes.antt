@@ -5,7 +5,7 @@ use mathlib.Core.Bool.{Bool, true, false, cond}
 use native.Mathlib.Numerals.{add-one}
 use native.Mathlib.Omega.{arith}
 use lib.ListN.{getD, set, length-set}
-use lib.Seq.{getD-set-same, getD-set-other}
+use lib.Seq.{getD-set-other}
 use Rattle.pic.specs.declared.Controller.{Controller}
 use Rattle.registers.specs.declared.Register.the-variants.{Meigwctrl, Meigwclr}
 use Rattle.pic.specs.Fields.{withLine, withLatch}

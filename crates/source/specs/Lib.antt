@@ -1,4 +1,4 @@
--- The rules of one source, in the order of document 01.
+-- The rules of one source that more than one crate needs, and tests one after the other.
 pub mod Ranks
 pub mod Sources
-pub mod Sound
+pub mod Tests

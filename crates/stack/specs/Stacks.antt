@@ -6,7 +6,7 @@ use lib.ListN.{getD}
 use lib.Dec.{leb, ltb, eqb}
 use Rattle.source.specs.declared.Rank.{Rank}
 use Rattle.source.specs.Ranks.{rank}
-use Rattle.source.specs.Sound.{all}
+use Rattle.source.specs.Tests.{all}
 use Rattle.stack.specs.declared.Handler.{Handler}
 
 -- A place of the stack that holds no handler yet.

@@ -5,7 +5,7 @@ use Prim.Native.Nat.{ℕ, suc, _+_, _*_, _^_, _≤_, _<_}
 use native.Mathlib.Nat.{lt-of-lt-of-le}
 use native.Mathlib.Omega.{arith}
 use mathlib.Core.List.{List, [], _∷_, _++_, map, append-assoc}
-use borrow.Author.Tests.{lt-ltb, le-leb, lt-leb, eq-eqb, ne-eqb, ltb-true, ltb-false}
+use borrow.Author.Tests.{lt-ltb, le-leb, ne-eqb, ltb-true, ltb-false}
 use lib.Dec.{ltb, lit<, lit≤}
 use lib.ListN.{length, replicate, length-append, length-replicate}
 use Rattle.buffers.specs.Filled.{filled}
@@ -20,38 +20,18 @@ use Rattle.record.proofs.Walk.{equally-many}
 use Rattle.record.proofs.Questions.{Readable, readable}
 use Rattle.trips.proofs.RoundTrip.{heads-count, writes-back}
 use Rattle.record.proofs.Parts.{heads-below, values-below}
-use Rattle.listing.specs.Lines.{lineFeed, colon, before, after, linesIn, linesOf}
+use Rattle.listing.specs.Lines.{lineFeed, colon, before, linesIn, linesOf}
 use Rattle.listing.specs.Numbers.{digitOf, allDigits, isNumber, numberAfter, numberOf}
 use Rattle.listing.specs.Reading.{headPart, valuePart, isEvent, headIn, valueIn, lastLine, firstBadFrom, firstBad, sourcesSaid, headsSaid, valuesSaid}
 use Rattle.telling.specs.Writing.{ended, sourcesLine, eventLine, eventsText, listingOf, textOf}
 use Rattle.listing.specs.Answers.{told, toRecordAnswer, toRecordBytes}
 use Rattle.telling.specs.Answers.{asked}
 use Rattle.telling.specs.Trip.{ComesBack}
-use Rattle.listing.proofs.Sentences.{Free, empty, other, free-append}
+use Rattle.listing.proofs.Digits.{low-sign, high-sign}
+use Rattle.listing.proofs.Sentences.{Free, empty, other, free-append, before-free, after-free}
 use Rattle.listing.proofs.Marks.{lines-first, lines-all}
 
--- Before the mark that follows such a list stands the list, and after it the rest.
-before-free : (mark : ℕ) {xs : List ℕ} (rest : List ℕ) → Free mark xs → before mark (xs ++ mark ∷ rest) ≡ xs
-unfolding before
-before-free mark rest empty = rw (eq-eqb mark mark refl)
-before-free mark rest (other {byte} h xs) = rw (ne-eqb byte mark h) (ap (λ (l : List ℕ). byte ∷ l) (before-free mark rest xs))
-
-after-free : (mark : ℕ) {xs : List ℕ} (rest : List ℕ) → Free mark xs → after mark (xs ++ mark ∷ rest) ≡ rest
-unfolding after
-after-free mark rest empty = rw (eq-eqb mark mark refl)
-after-free mark rest (other {byte} h xs) = rw (ne-eqb byte mark h) (after-free mark rest xs)
-
 -- The sign of a digit says that digit, and is no mark.
-low-sign : (d : ℕ) → d < 10 → digitOf (48 + d) ≡ d
-unfolding digitOf
-low-sign d h = rw (le-leb 48 (48 + d) (omega arith), le-leb (48 + d) 57 (omega arith)) (omega arith)
-
-high-sign : (d : ℕ) → 10 ≤ d → d < 16 → digitOf (87 + d) ≡ d
-unfolding digitOf
-high-sign d l h =
-    rw (le-leb 48 (87 + d) (omega arith), lt-leb (87 + d) 57 (omega arith), le-leb 97 (87 + d) (omega arith), le-leb (87 + d) 102 (omega arith))
-    (omega arith)
-
 glyph-there : (d : ℕ) → d < 16 → (digitOf (glyph d) ≡ d) × (glyph d ≡ lineFeed → ⊥) × (glyph d ≡ colon → ⊥)
 glyph-there d h = by-case (ltb d 10) refl
   where

@@ -1,5 +1,5 @@
-use Rattle.source.specs.Sources.{gapOf}
-use Rattle.source.proofs.Gap.{computed, computed-fits}
+use Rattle.pic.specs.Sources.{gapOf}
+use Rattle.pic.proofs.Gap.{computed, computed-fits}
 use borrow.Author.Needs.{needs}
 use Rattle.pic.proofs.calls.gap.Statement.{statement}
 use Rattle.pic.proofs.calls.gap.Tie as tie

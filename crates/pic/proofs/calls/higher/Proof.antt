@@ -1,5 +1,5 @@
 use borrow.Author.Tests.{lt-ltb, le-ltb}
-use Rattle.source.specs.Sources.{higherOf}
+use Rattle.pic.specs.Sources.{higherOf}
 use Rattle.pic.proofs.calls.higher.Statement.{statement}
 use Rattle.pic.proofs.calls.higher.Tie as tie
 

@@ -1,5 +1,5 @@
 use mathlib.Core.Path.{refl}
-use Rattle.source.specs.Sound.{sourceSound}
+use Rattle.pic.specs.Sound.{sourceSound}
 use Rattle.pic.proofs.sound.source_sound.Statement.{statement}
 use Rattle.pic.proofs.sound.source_sound.Tie as tie
 

@@ -1,5 +1,5 @@
 use borrow.Author.Tests.{lt-ltb, le-ltb}
-use Rattle.source.specs.Sources.{betterOf}
+use Rattle.pic.specs.Sources.{betterOf}
 use Rattle.pic.proofs.sources.better.Statement.{statement}
 use Rattle.pic.proofs.sources.better.Tie as tie
 

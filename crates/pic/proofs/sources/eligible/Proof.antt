@@ -1,5 +1,5 @@
 use mathlib.Core.Path.{refl}
-use Rattle.source.specs.Sources.{isEligible}
+use Rattle.pic.specs.Sources.{isEligible}
 use Rattle.pic.proofs.sources.eligible.Statement.{statement}
 use Rattle.pic.proofs.sources.eligible.Tie as tie
 

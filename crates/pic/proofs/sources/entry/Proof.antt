@@ -1,4 +1,4 @@
-use Rattle.source.specs.Sources.{entryOf}
+use Rattle.pic.specs.Sources.{entryOf}
 use Rattle.pic.proofs.sources.entry.Statement.{statement}
 use Rattle.pic.proofs.sources.entry.Tie as tie
 

@@ -10,8 +10,8 @@ use lib.Signed.{ltZ, leZ}
 use mir.Val.{SFits, toZ, ofZ}
 use mir.Syntax.{w32}
 use mir.Facts.{toZ-pos, toZ-ofZ}
 use Rattle.source.specs.declared.Rank.{Rank}
-use Rattle.source.specs.Sources.{gapOf}
+use Rattle.pic.specs.Sources.{gapOf}
 
 pub not-less : (a b : ℕ) → b ≤ a → pos a -ℤ pos b ≡ pos (a - b)
 not-less a zero h = ap pos (omega arith)
