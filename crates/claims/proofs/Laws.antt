@@ -13,13 +13,13 @@ use Rattle.event.specs.Event.{kindOf}
 use Rattle.pic.specs.declared.Controller.{Controller}
 use Rattle.pic.specs.declared.Capture.{Capture}
 use Rattle.pic.specs.declared.Outcome as controller
-use Rattle.source.specs.declared.Rank.{Rank}
+use Rattle.pic_source.specs.declared.Rank.{Rank}
 use Rattle.pic.specs.Sources.{rankAt, enableAt, pendingAt}
 use Rattle.pic.specs.Sound as pic
 use Rattle.pic.specs.Calls as calls
-use Rattle.registers.specs.Calls as registers
-use Rattle.csrs.specs.Calls as csrs
-use Rattle.source.proofs.Bools.{and-parts, le-cases}
+use Rattle.pic_registers.specs.Calls as registers
+use Rattle.pic_csrs.specs.Calls as csrs
+use Rattle.pic_source.proofs.Bools.{and-parts, le-cases}
 use Rattle.pic_laws.proofs.Captures.{Captured, captured-served, margin-over, above-over}
 use Rattle.pic.proofs.Winning.{eligible-parts, eligible-is}
 use Rattle.nesting.specs.Claim.{isOther, Does, Pushed, Swapped, Laws}
@@ -29,7 +29,7 @@ use Rattle.nesting.proofs.Nesting.{nesting}
 use Rattle.handlers.specs.declared.Machine.{Machine}
 use Rattle.handlers.specs.declared.Outcome.{Outcome}
 use Rattle.handlers.specs.Fields.{withMask}
-use Rattle.stack.specs.Stacks.{blank}
+use Rattle.handlers_stack.specs.Stacks.{blank}
 use Rattle.handlers.specs.Machines.{uppermost, powerOnOf}
 use Rattle.handlers.specs.Service.{accepted, refused, lifted, newHandler, taken, marked, serves, replaced, chained, stepOf}
 use Rattle.handlers.proofs.Facts.{facts, Sound, room}

@@ -12,7 +12,7 @@ use Rattle.pic.specs.Sources.{rankAt, enableAt, pendingAt}
 use Rattle.nesting.specs.Claim.{Class, isTaking, isChaining, isReturn, isOther}
 use Rattle.nesting.specs.Claim as claim
 use Rattle.nesting.specs.Held.{held}
-use Rattle.stack.specs.declared.Handler.{Handler}
+use Rattle.handlers_stack.specs.declared.Handler.{Handler}
 use Rattle.handlers.specs.declared.Machine.{Machine}
 use Rattle.handlers.specs.declared.Outcome.{Outcome}
 use Rattle.handlers.specs.Machines.{soundOf, powerOnOf}

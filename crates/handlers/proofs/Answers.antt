@@ -13,7 +13,7 @@ use Rattle.pic_laws.proofs.Kept.{capture-8, capture-is}
 use Rattle.handlers.specs.declared.Machine.{Machine}
 use Rattle.handlers.specs.declared.Outcome.{Outcome}
 use Rattle.handlers.specs.Machines.{uppermost, stackSound, soundOf}
-use Rattle.stack.specs.Stacks.{handlersSound, levelOf}
+use Rattle.handlers_stack.specs.Stacks.{handlersSound, levelOf}
 use Rattle.handlers.specs.Service.{lifted, refused, ask, mayWrite, sampleOf, loadOf, storeOf, csrReadOf, csrWriteOf, takeOf, openOf, chainOf, returnOf, setMaskOf, eventOf}
 
 module _ (m : Machine) where

@@ -8,7 +8,7 @@ use lib.Dec.{leb, eqb}
 use lib.IntN.{pos}
 use lib.Signed.{ltZ}
 use borrow.Author.Tests.{leb-true, ltb-true, eqb-true, le-leb, eq-eqb}
-use Rattle.source.specs.declared.Rank.{Rank}
+use Rattle.pic_source.specs.declared.Rank.{Rank}
 use Rattle.pic.specs.declared.Capture.{Capture}
 use Rattle.pic.specs.Sources.{winnerOf, marginOf, higherOf}
 use Rattle.pic.specs.Sound as pic
@@ -18,12 +18,12 @@ use Rattle.pic.proofs.Winning.{winner-small}
 use Rattle.pic.proofs.Larger.{higher-is}
 use Rattle.pic.proofs.Margins.{margin-above}
 use Rattle.pic_laws.proofs.Kept.{capture-is}
-use Rattle.source.proofs.Bools.{and-parts, or-cases, or-intro}
-use Rattle.stack.specs.declared.Handler.{Handler}
+use Rattle.pic_source.proofs.Bools.{and-parts, or-cases, or-intro}
+use Rattle.handlers_stack.specs.declared.Handler.{Handler}
 use Rattle.handlers.specs.declared.Machine.{Machine}
 use Rattle.handlers.specs.Machines.{uppermost, currentFits, isOpen, maskFits, stackSound, soundOf}
-use Rattle.stack.specs.Stacks.{handlersSound, levelOf}
-use Rattle.stack.proofs.Stacks.{Fine, each, each-back, rank-high}
+use Rattle.handlers_stack.specs.Stacks.{handlersSound, levelOf}
+use Rattle.handlers_stack.proofs.Stacks.{Fine, each, each-back, rank-high}
 
 -- The handlers' part of soundness.
 pub record StackFacts (m : Machine) : Type 0 where

@@ -2,7 +2,7 @@
 use Prim.Native.Nat.{ℕ}
 use mathlib.Core.List.{List}
 use Rattle.pic.specs.declared.Controller.{Controller}
-use Rattle.stack.specs.declared.Handler.{Handler}
+use Rattle.handlers_stack.specs.declared.Handler.{Handler}
 use Rattle.handlers.specs.declared.Machine.{Machine}
 
 abbrev pub withController : Machine → Controller → Machine

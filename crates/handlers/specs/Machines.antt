@@ -5,8 +5,8 @@ use lib.ListN.{getD, replicate}
 use lib.Dec.{leb, eqb}
 use Rattle.pic.specs.Sound as pic
 use Rattle.pic.specs.Calls as calls
-use Rattle.stack.specs.declared.Handler.{Handler}
-use Rattle.stack.specs.Stacks.{blank, handlersSound, levelOf}
+use Rattle.handlers_stack.specs.declared.Handler.{Handler}
+use Rattle.handlers_stack.specs.Stacks.{blank, handlersSound, levelOf}
 use Rattle.handlers.specs.declared.Machine.{Machine}
 use Rattle.handlers.specs.declared.Outcome.{Outcome}
 

@@ -10,9 +10,9 @@ use Rattle.pic.specs.declared.Margin.{Margin}
 use Rattle.pic.specs.declared.Outcome as controller
 use Rattle.pic.specs.Fields.{withCurrent}
 use Rattle.pic.specs.Calls as calls
-use Rattle.registers.specs.Calls as registers
-use Rattle.csrs.specs.Calls as csrs
-use Rattle.stack.specs.declared.Handler.{Handler}
+use Rattle.pic_registers.specs.Calls as registers
+use Rattle.pic_csrs.specs.Calls as csrs
+use Rattle.handlers_stack.specs.declared.Handler.{Handler}
 use Rattle.handlers.specs.declared.Machine.{Machine}
 use Rattle.handlers.specs.declared.Outcome.{Outcome}
 use Rattle.handlers.specs.Fields.{withController, withMask, withDepth, withStack}

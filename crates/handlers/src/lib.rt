@@ -4,8 +4,8 @@ mod lifted;
 mod service;
 mod sound;
 
+use handlers_stack::Handler;
 use pic::Controller;
-use stack::Handler;
 
 // The machine. Places of the stack from depth up mean nothing.
 pub struct Machine {

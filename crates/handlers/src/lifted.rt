@@ -29,7 +29,7 @@ impl Machine {
     {
         let ok = self.stack_sound();
         let c = self.controller;
-        lift(self, ok, registers::sample(c, x, v))
+        lift(self, ok, pic_registers::sample(c, x, v))
     }
 
     // A load of the word at an offset.
@@ -38,7 +38,7 @@ impl Machine {
     {
         let ok = self.stack_sound();
         let c = self.controller;
-        lift(self, ok, registers::load(c, offset))
+        lift(self, ok, pic_registers::load(c, offset))
     }
 
     // A store of the word v at an offset.
@@ -47,7 +47,7 @@ impl Machine {
     {
         let ok = self.stack_sound();
         let c = self.controller;
-        lift(self, ok, registers::store(c, offset, v))
+        lift(self, ok, pic_registers::store(c, offset, v))
     }
 
     // A read of a CSR.
@@ -56,7 +56,7 @@ impl Machine {
     {
         let ok = self.stack_sound();
         let c = self.controller;
-        lift(self, ok, csrs::csr_read(c, address))
+        lift(self, ok, pic_csrs::csr_read(c, address))
     }
 
     // A write of v to a CSR.
@@ -71,6 +71,6 @@ impl Machine {
             }
             return refuse(self, 8);
         }
-        lift(self, ok, csrs::csr_write(c, address, v))
+        lift(self, ok, pic_csrs::csr_write(c, address, v))
     }
 }

@@ -14,10 +14,10 @@ use crate::Machine;
 use crate::Outcome;
 use crate::sound::accept;
 use crate::sound::refuse;
-use csrs::with_current;
+use handlers_stack::Handler;
 use pic::Capture;
-use source::Rank;
-use stack::Handler;
+use pic_csrs::with_current;
+use pic_source::Rank;
 
 // Whether a margin is above 0.
 fn is_above(margin: i32) -> bool

@@ -6,9 +6,9 @@ ghost use Rattle.handlers.specs.Machines.{uppermost, stackSound, soundOf
 ghost use Rattle.handlers.specs.Service.{accepted, refused};
 use crate::Machine;
 use crate::Outcome;
-use stack::Handler;
-use stack::handlers_sound;
-use stack::level;
+use handlers_stack::Handler;
+use handlers_stack::handlers_sound;
+use handlers_stack::level;
 
 pub(crate) fn refuse(m: Machine, q: u8) -> Outcome
     ensures { λ r. ⌜ r ≡ refused m q ⌝ }

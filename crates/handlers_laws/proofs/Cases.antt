@@ -9,8 +9,8 @@ use lib.Signed.{ltZ}
 use borrow.Author.Tests.{eqb-true, eqb-false}
 use Rattle.event.specs.Event.{kindOf, addressOf, shapeOf}
 use Rattle.pic.specs.Calls as calls
-use Rattle.registers.specs.Calls as registers
-use Rattle.csrs.specs.Calls as csrs
+use Rattle.pic_registers.specs.Calls as registers
+use Rattle.pic_csrs.specs.Calls as csrs
 use Rattle.handlers.specs.declared.Machine.{Machine}
 use Rattle.handlers.specs.declared.Outcome.{Outcome}
 use Rattle.handlers.specs.Fields.{withMask}

@@ -11,21 +11,21 @@ use lib.IntN.{pos}
 use lib.Signed.{ltZ}
 use borrow.Author.Tests.{eqb-true, eqb-false, ltb-true, leb-true, not-true}
 use Rattle.pic.specs.declared.Controller.{Controller}
-use Rattle.source.specs.declared.Rank.{Rank}
+use Rattle.pic_source.specs.declared.Rank.{Rank}
 use Rattle.pic.specs.Sound as pic
 use Rattle.pic.specs.Calls as calls
-use Rattle.csrs.specs.Calls as csrs
-use Rattle.source.proofs.Bools.{and-parts, or-cases, eq-cases}
+use Rattle.pic_csrs.specs.Calls as csrs
+use Rattle.pic_source.proofs.Bools.{and-parts, or-cases, eq-cases}
 use Rattle.pic_laws.proofs.Kept.{sample-sound, sample-sources, sample-current, store-sound, store-sources, store-current, csr-write-sound, csr-write-sources, csr-write-current, load-same, csr-read-same, capture-sound, capture-parts, current-sound, power-on-sound}
 use Rattle.pic_laws.proofs.Captures.{captured-served, margin-over}
-use Rattle.stack.specs.declared.Handler.{Handler}
+use Rattle.handlers_stack.specs.declared.Handler.{Handler}
 use Rattle.handlers.specs.declared.Machine.{Machine}
 use Rattle.handlers.specs.Fields.{withController, withMask}
-use Rattle.stack.specs.Stacks.{blank, belowOf, levelOf}
+use Rattle.handlers_stack.specs.Stacks.{blank, belowOf, levelOf}
 use Rattle.handlers.specs.Machines.{uppermost, isOpen, soundOf, powerOnOf}
 use Rattle.handlers.specs.Service.{lifted, mayWrite, newHandler, taken, marked, opened, serves, replaced, captured, chained, returned, csrWriteOf, stepOf}
 use Rattle.handlers_laws.proofs.Cases.{step-cases}
-use Rattle.stack.proofs.Stacks.{Fine, Stored, fine-kept, fine-stored, fine-popped}
+use Rattle.handlers_stack.proofs.Stacks.{Fine, Stored, fine-kept, fine-stored, fine-popped}
 use Rattle.handlers.proofs.Facts.{StackFacts, facts, sound, top-fine, level-opened, room}
 
 -- A sound machine whose stack has its fifteen places.

@@ -10,7 +10,7 @@ use lib.Signed.{ltZ, leZ}
 use mir.Val.{SFits, toZ, ofZ}
 use mir.Syntax.{w32}
 use mir.Facts.{toZ-pos, toZ-ofZ}
-use Rattle.source.specs.declared.Rank.{Rank}
+use Rattle.pic_source.specs.declared.Rank.{Rank}
 use Rattle.pic.specs.Sources.{gapOf}
 
 pub not-less : (a b : ℕ) → b ≤ a → pos a -ℤ pos b ≡ pos (a - b)

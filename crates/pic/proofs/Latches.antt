@@ -9,9 +9,9 @@ use lib.ListN.{length, getD, set, length-set}
 use lib.Seq.{getD-set-same, getD-set-other, set-getD, ext-getD}
 use lib.Dec.{eqb}
 use borrow.Author.Tests.{eqb-true, eqb-false}
-use Rattle.source.specs.Sources.{isActive, latchAfter}
+use Rattle.pic_source.specs.Sources.{isActive, latchAfter}
 use Rattle.pic.specs.Sources.{latchesTo}
-use Rattle.source.proofs.Bools.{le-cases, eq-cases}
+use Rattle.pic_source.proofs.Bools.{le-cases, eq-cases}
 
 module _ (line polarity latch : List ℕ) where
   -- The latch of source s after the event.

@@ -10,11 +10,11 @@ use lib.Seq.{getD-set-same, getD-set-other}
 use lib.Dec.{eqb}
 use borrow.Author.Tests.{leb-true, ltb-true, eqb-true, eqb-false, le-leb, lt-ltb, eq-eqb}
 use Rattle.pic.specs.declared.Controller.{Controller}
-use Rattle.source.specs.Sources.{isActive, latchAfter}
+use Rattle.pic_source.specs.Sources.{isActive, latchAfter}
 use Rattle.pic.specs.Fields.{withLatch}
 use Rattle.pic.specs.Sources.{rankAt, enableAt, triggerAt, polarityAt, lineAt, latchAt, settle, latchesTo}
 use Rattle.pic.specs.Sound.{placeTests, sourceSoundAt, sourcesSound, soundTests, soundOf, sourceTests, sourceSound}
-use Rattle.source.proofs.Bools.{and-parts, or-cases, eq-cases, all-at}
+use Rattle.pic_source.proofs.Bools.{and-parts, or-cases, eq-cases, all-at}
 use Rattle.pic.proofs.Latches.{length-latches, latch-in, latches-same, after-after}
 
 -- An array with a place for each of the n sources, whose values at the sources are at most m.

@@ -7,11 +7,11 @@ use native.Mathlib.Omega.{arith}
 use lib.Dec.{leb, ltb, eqb}
 use borrow.Author.Tests.{ltb-true, ltb-false, leb-true, le-ltb, le-leb, eq-eqb}
 use Rattle.pic.specs.declared.Controller.{Controller}
-use Rattle.source.specs.declared.Rank.{Rank}
+use Rattle.pic_source.specs.declared.Rank.{Rank}
 use Rattle.pic.specs.declared.Winner.{Winner}
-use Rattle.source.specs.Ranks.{rank}
+use Rattle.pic_source.specs.Ranks.{rank}
 use Rattle.pic.specs.Sources.{rankAt, enableAt, pendingAt, eligibleAt, winnerTo, winnerOf, Eligible, Before, IsWinner, isEligible, entryOf, betterOf}
-use Rattle.source.proofs.Bools.{never, and-parts, eq-cases}
+use Rattle.pic_source.proofs.Bools.{never, and-parts, eq-cases}
 use Rattle.pic.proofs.Soundness.{Sound}
 
 -- An eligible source is enabled, pending, and of rank 1 or more.

@@ -2,7 +2,7 @@
 use Prim.Native.Nat.{ℕ}
 use mathlib.Core.List.{List}
 use Rattle.pic.specs.declared.Controller.{Controller}
-use Rattle.source.specs.declared.Rank.{Rank}
+use Rattle.pic_source.specs.declared.Rank.{Rank}
 
 abbrev pub withRank : Controller → List ℕ → Controller
 withRank m v =

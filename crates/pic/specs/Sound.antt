@@ -5,8 +5,8 @@ use mathlib.Core.List.{List, [], _∷_}
 use lib.ListN.{length, replicate}
 use lib.Dec.{leb, ltb, eqb}
 use Rattle.pic.specs.declared.Controller.{Controller}
-use Rattle.source.specs.Ranks.{rank}
-use Rattle.source.specs.Tests.{all}
+use Rattle.pic_source.specs.Ranks.{rank}
+use Rattle.pic_source.specs.Tests.{all}
 use Rattle.pic.specs.Sources.{rankAt, enableAt, triggerAt, polarityAt, lineAt, latchAt}
 
 -- Power-on with N sets all else to 0.

@@ -8,11 +8,11 @@ use lib.ListN.{getD, set}
 use lib.Dec.{leb, ltb, eqb}
 use lib.IntN.{ℤ, pos, _-ℤ_}
 use Rattle.pic.specs.declared.Controller.{Controller}
-use Rattle.source.specs.declared.Rank.{Rank}
+use Rattle.pic_source.specs.declared.Rank.{Rank}
 use Rattle.pic.specs.declared.Winner.{Winner}
 use Rattle.pic.specs.Fields.{withLatch, withClaim, withClaimed}
-use Rattle.source.specs.Ranks.{rank}
-use Rattle.source.specs.Sources.{latchAfter, isPending}
+use Rattle.pic_source.specs.Ranks.{rank}
+use Rattle.pic_source.specs.Sources.{latchAfter, isPending}
 
 -- Rank, enable, type (trigger here), polarity, line and latch of a source.
 abbrev pub rankAt : Controller → ℕ → Rank

@@ -9,7 +9,7 @@ use crate::Capture;
 use crate::Controller;
 use crate::Margin;
 use crate::Winner;
-use source::Rank;
+use pic_source::Rank;
 
 // The larger of two ranks.
 fn higher(a: Rank, b: Rank) -> Rank

@@ -4,7 +4,7 @@ mod calls;
 mod sound;
 mod sources;
 
-use source::Rank;
+use pic_source::Rank;
 
 // The controller. The arrays are indexed by source number; places 0 and above the number of sources mean nothing.
 pub struct Controller {

@@ -5,7 +5,7 @@ ghost use Rattle.pic.specs.Sound.{sourceSound, initial, sourcesSound, so
 ghost use Rattle.pic.specs.Calls.{powerOnOf};
 use crate::Controller;
 use crate::Outcome;
-use source::Rank;
+use pic_source::Rank;
 
 // Whether the values of a source are sound.
 fn source_sound(rank: u8, enable: u8, trigger: u8, polarity: u8, line: u8, latch: u8) -> bool

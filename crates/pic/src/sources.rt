@@ -1,12 +1,12 @@
 // What enters the comparison of the sources, and the winner.
 
 ghost use mathlib.Core.Path.{_≡_};
-ghost use Rattle.source.specs.Sources.{isPending};
+ghost use Rattle.pic_source.specs.Sources.{isPending};
 ghost use Rattle.pic.specs.Sources.{isEligible, entryOf, betterOf, winnerOf};
 use crate::Controller;
 use crate::Winner;
-use source::Rank;
-use source::sources::pending;
+use pic_source::Rank;
+use pic_source::sources::pending;
 
 fn eligible(enable: u8, is_pending: bool, rank: u8) -> bool
     ensures { λ r. ⌜ r ≡ isEligible enable «is_pending» rank ⌝ }

@@ -9,26 +9,26 @@ use lib.Dec.{leb, eqb}
 use borrow.Author.Tests.{leb-true}
 use Rattle.pic.specs.declared.Controller.{Controller}
 use Rattle.pic.specs.declared.Outcome.{Outcome}
-use Rattle.source.specs.declared.Rank.{Rank}
-use Rattle.registers.specs.declared.Register.{Register}
-use Rattle.registers.specs.declared.Register.the-variants.{Meipl, Meip, Meie, Mpiccfg, Meigwctrl, Meigwclr, NoRegister}
-use Rattle.csrs.specs.declared.Csr.{Csr}
-use Rattle.csrs.specs.declared.Csr.the-variants.{Meivt, Meipt, Meicpct, Meicidpl, Meicurpl, Meihap, NoCsr}
+use Rattle.pic_source.specs.declared.Rank.{Rank}
+use Rattle.pic_registers.specs.declared.Register.{Register}
+use Rattle.pic_registers.specs.declared.Register.the-variants.{Meipl, Meip, Meie, Mpiccfg, Meigwctrl, Meigwclr, NoRegister}
+use Rattle.pic_csrs.specs.declared.Csr.{Csr}
+use Rattle.pic_csrs.specs.declared.Csr.the-variants.{Meivt, Meipt, Meicpct, Meicidpl, Meicurpl, Meihap, NoCsr}
 use Rattle.pic.specs.Fields.{withCurrent}
-use Rattle.source.specs.Ranks.{fieldOf}
-use Rattle.source.specs.Sources.{isSource}
+use Rattle.pic_source.specs.Ranks.{fieldOf}
+use Rattle.pic_source.specs.Sources.{isSource}
 use Rattle.pic.specs.Sources.{settle, captured}
 use Rattle.pic.specs.Sound.{initial, isCount, soundOf}
-use Rattle.registers.specs.Registers.{bitOf, linesTo, sampled, readOf, writtenRank, writtenOf}
-use Rattle.csrs.specs.Values.{csrValue, csrWritten}
-use Rattle.registers.specs.Offsets.{registerAt, offsetRefusal}
-use Rattle.csrs.specs.Addresses.{csrAt, isCsr}
+use Rattle.pic_registers.specs.Registers.{bitOf, linesTo, sampled, readOf, writtenRank, writtenOf}
+use Rattle.pic_csrs.specs.Values.{csrValue, csrWritten}
+use Rattle.pic_registers.specs.Offsets.{registerAt, offsetRefusal}
+use Rattle.pic_csrs.specs.Addresses.{csrAt, isCsr}
 use Rattle.pic.specs.Calls.{handed, accepted, refused, ask, powerOnOf, capturing, notCaptured, captureOf}
-use Rattle.registers.specs.Calls.{sampleOf, loadOf, storeOf}
-use Rattle.csrs.specs.Calls.{csrReadOf, csrWriteOf}
-use Rattle.source.proofs.Bools.{and-parts}
-use Rattle.csrs.proofs.Addresses.{csr-address}
-use Rattle.source.proofs.Mirror.{mirror-small, rank-written}
+use Rattle.pic_registers.specs.Calls.{sampleOf, loadOf, storeOf}
+use Rattle.pic_csrs.specs.Calls.{csrReadOf, csrWriteOf}
+use Rattle.pic_source.proofs.Bools.{and-parts}
+use Rattle.pic_csrs.proofs.Addresses.{csr-address}
+use Rattle.pic_source.proofs.Mirror.{mirror-small, rank-written}
 use Rattle.pic.proofs.Soundness.{Column, column-set, Base, InRange, Sound, facts, sound, settle-same, settle-sound, settle-kept}
 use Rattle.pic.proofs.Winning.{winner-small}
 

@@ -4,16 +4,16 @@ use mathlib.Core.Path.{_≡_, refl}
 use mathlib.Core.List.{List, [], _∷_}
 use lib.IntN.{pos, negsuc}
 use Rattle.pic.specs.declared.Controller.{Controller}
-use Rattle.source.specs.Ranks.{mirror}
+use Rattle.pic_source.specs.Ranks.{mirror}
 use Rattle.pic.specs.Sources.{latchesTo, winnerTo, winnerOf, isEligible, entryOf, betterOf, higherOf, gapOf}
-use Rattle.source.specs.Sources.{isPending}
+use Rattle.pic_source.specs.Sources.{isPending}
 use Rattle.pic.specs.Sound.{initial, sourcesSound, soundOf, sourceSound}
-use Rattle.registers.specs.Registers.{linesTo, joinOf, pendingTo, readOf, writtenOf}
-use Rattle.csrs.specs.Values.{csrValue, csrWritten}
-use Rattle.registers.specs.Offsets.{sourceRegister, pageRegister, offsetRefusal}
-use Rattle.csrs.specs.Addresses.{csrAt}
-use Rattle.registers.specs.Calls.{sampleOf, loadOf, storeOf}
-use Rattle.csrs.specs.Calls.{csrReadOf, csrWriteOf}
+use Rattle.pic_registers.specs.Registers.{linesTo, joinOf, pendingTo, readOf, writtenOf}
+use Rattle.pic_csrs.specs.Values.{csrValue, csrWritten}
+use Rattle.pic_registers.specs.Offsets.{sourceRegister, pageRegister, offsetRefusal}
+use Rattle.pic_csrs.specs.Addresses.{csrAt}
+use Rattle.pic_registers.specs.Calls.{sampleOf, loadOf, storeOf}
+use Rattle.pic_csrs.specs.Calls.{csrReadOf, csrWriteOf}
 use Rattle.pic.specs.Calls.{marginAnswer}
 
 -- A call that changes the controller.

@@ -1,9 +1,9 @@
 // Makes a text of a record: the record on standard input, the text on standard output. A record that is refused is said on standard error.
-use telling::TextAnswer;
+use text_writer::TextAnswer;
 
 fn convert(bytes: &[u8]) {
     let mut text: [u8; 72004] = [0; 72004];
-    let answer = telling::to_text(bytes, &mut text);
+    let answer = text_writer::to_text(bytes, &mut text);
     match answer {
         TextAnswer::Done { length } => console::write_out(&text[..length]),
         TextAnswer::Refused { refusal, place } => console::say_refused(refusal, place),

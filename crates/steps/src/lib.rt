@@ -1,15 +1,15 @@
 // A run of the machine, step by step: power-on, one event of any kind, and the margin query.
 
 ghost use mathlib.Core.Path.{_≡_};
-ghost use Rattle.stack.specs.Stacks.{blank};
+ghost use Rattle.handlers_stack.specs.Stacks.{blank};
 ghost use Rattle.handlers.specs.Machines.{powerOnOf};
 ghost use Rattle.handlers.specs.Service.{refused, eventOf, stepOf, marginAnswer};
 use handlers::Machine;
 use handlers::Outcome;
+use handlers_stack::Handler;
 use pic::Controller;
 use pic::Margin;
-use source::Rank;
-use stack::Handler;
+use pic_source::Rank;
 
 // A place of the stack that holds no handler yet.
 fn no_handler() -> Handler

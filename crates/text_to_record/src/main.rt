@@ -1,5 +1,5 @@
 // Makes a record of a text: the text on standard input, the record on standard output. A text that is refused is said on standard error.
-use listing::RecordAnswer;
+use text_reader::RecordAnswer;
 
 // Says which line is bad.
 fn say_bad_line(line: usize) {
@@ -10,7 +10,7 @@ fn say_bad_line(line: usize) {
 
 fn convert(text: &[u8]) {
     let mut bytes: [u8; 32008] = [0; 32008];
-    let answer = listing::to_record(text, &mut bytes);
+    let answer = text_reader::to_record(text, &mut bytes);
     match answer {
         RecordAnswer::Done { length } => console::write_out(&bytes[..length]),
         RecordAnswer::BadLine { line } => say_bad_line(line),

@@ -2,7 +2,7 @@ use Prim.Native.Nat.{_≤_}
 use mathlib.Core.Path.{sym, ap}
 use lib.ListN.{length}
 use lib.Seq.{length-take-le}
-use Rattle.telling.specs.Answers.{lengthTold}
+use Rattle.text_writer.specs.Answers.{lengthTold}
 use borrow.Author.Needs.{needs}
 use Rattle.record_to_text.proofs.convert.Statement.{statement}
 use Rattle.record_to_text.proofs.convert.Tie as tie

@@ -2,7 +2,7 @@ use Prim.Native.Nat.{_≤_}
 use mathlib.Core.Path.{sym, ap}
 use lib.ListN.{length}
 use lib.Seq.{length-take-le}
-use Rattle.listing.specs.Answers.{lengthMade}
+use Rattle.text_reader.specs.Answers.{lengthMade}
 use borrow.Author.Needs.{needs}
 use Rattle.text_to_record.proofs.convert.Statement.{statement}
 use Rattle.text_to_record.proofs.convert.Tie as tie

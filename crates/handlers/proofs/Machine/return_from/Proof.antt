@@ -2,7 +2,7 @@ use Prim.Native.Nat.{_≤_, _<_}
 use mathlib.Core.Path.{_≡_, ap}
 use mathlib.Core.Bool.{true}
 use native.Mathlib.Omega.{arith}
-use Rattle.stack.specs.declared.Handler.{Handler}
+use Rattle.handlers_stack.specs.declared.Handler.{Handler}
 use Rattle.handlers.specs.Machines.{soundOf}
 use Rattle.handlers.proofs.Facts.{facts}
 use Rattle.handlers.proofs.Answers.{unsound, is-sound}

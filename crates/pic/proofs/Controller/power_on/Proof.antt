@@ -1,6 +1,6 @@
 use native.Mathlib.Omega.{arith}
 use Rattle.pic.specs.Calls.{powerOnOf}
-use Rattle.source.proofs.Bools.{and-parts}
+use Rattle.pic_source.proofs.Bools.{and-parts}
 use borrow.Author.Tests.{leb-true}
 use lib.Dec.{leb}
 use borrow.Author.Needs.{needs}

@@ -1,0 +1,340 @@
+-- Document 01, "Bench points K1 to K10", the listing of "The player", and a list that nests fifteen handlers: one table about the rules. Each point is a
+-- list of events played from power-on, each event with what it must answer or be refused with, and what the machine must hold after it.
+use Prim.Native.Nat.{ℕ, zero, suc, _+_, _*_, _^_}
+use mathlib.Core.Path.{_≡_}
+use mathlib.Core.Bool.{Bool, false}
+use mathlib.Core.List.{List, [], _∷_, _++_}
+use lib.ListN.{take as first}
+use lib.IntN.{ℤ, pos}
+use Rattle.pic_source.specs.declared.Rank.{Rank}
+use Rattle.pic_source.specs.Ranks.{rank}
+use Rattle.pic.specs.Sources.{winnerOf, isEligible}
+use Rattle.pic_registers.specs.Registers.{writtenRank}
+use Rattle.handlers_stack.specs.declared.Handler.{Handler}
+use Rattle.handlers.specs.declared.Machine.{Machine}
+use Rattle.handlers.specs.Machines.{powerOnOf}
+use Rattle.handlers.specs.Service.{marginAnswer}
+use Rattle.claims.specs.Play.{endOf, answersOf, refusalsOf}
+
+-- A row: an event, "a head and a value", with the answer and the refusal that it must get.
+pub record Row : Type 0 where
+  pub head : ℕ
+  pub value : ℕ
+  pub answer : ℕ
+  pub refusal : ℕ
+
+-- An event of this kind, address and value, accepted. "Answers not named are 0."
+abbrev pub event : ℕ → ℕ → ℕ → Row
+event kind address value = record { head = kind * 65536 + address; value = value; answer = 0; refusal = 0 }
+
+-- The same event with another answer.
+infix 80 _answers_
+abbrev pub _answers_ : Row → ℕ → Row
+e answers a = record { head = e .head; value = e .value; answer = a; refusal = 0 }
+
+-- The same event refused. "A refused event answers 0 and the number."
+infix 80 _refused_
+abbrev pub _refused_ : Row → ℕ → Row
+e refused q = record { head = e .head; value = e .value; answer = 0; refusal = q }
+
+-- The ten kinds. Sample: a word number and its bits. Load and store: an offset. CSR read and write: a CSR. Set mask: the value.
+abbrev pub sample : ℕ → ℕ → Row
+sample x v = event 0 x v
+
+abbrev pub load : ℕ → Row
+load offset = event 1 offset 0
+
+abbrev pub store : ℕ → ℕ → Row
+store offset v = event 2 offset v
+
+abbrev pub csrRead : ℕ → Row
+csrRead a = event 3 a 0
+
+abbrev pub csrWrite : ℕ → ℕ → Row
+csrWrite a v = event 4 a v
+
+abbrev pub take : Row
+take = event 5 0 0
+
+abbrev pub open-up : Row
+open-up = event 6 0 0
+
+abbrev pub chain : Row
+chain = event 7 0 0
+
+abbrev pub return : Row
+return = event 8 0 0
+
+abbrev pub mask : ℕ → Row
+mask v = event 9 0 v
+
+-- Offsets of registers, of source s or of word x, and the CSRs.
+abbrev pub meipl : ℕ → ℕ
+meipl s = 4 * s
+
+abbrev pub meip : ℕ → ℕ
+meip x = 0x1000 + 4 * x
+
+abbrev pub meie : ℕ → ℕ
+meie s = 0x2000 + 4 * s
+
+abbrev pub mpiccfg : ℕ
+mpiccfg = 0x3000
+
+abbrev pub meigwctrl : ℕ → ℕ
+meigwctrl s = 0x4000 + 4 * s
+
+abbrev pub meigwclr : ℕ → ℕ
+meigwclr s = 0x5000 + 4 * s
+
+abbrev pub meivt : ℕ
+meivt = 0xBC8
+
+abbrev pub meipt : ℕ
+meipt = 0xBC9
+
+abbrev pub meicpct : ℕ
+meicpct = 0xBCA
+
+abbrev pub meihap : ℕ
+meihap = 0xFC8
+
+-- The columns of a list of rows.
+abbrev pub headsIn : List Row → List ℕ
+headsIn [] = []
+headsIn (e ∷ es) = e .head ∷ headsIn es
+
+abbrev pub valuesIn : List Row → List ℕ
+valuesIn [] = []
+valuesIn (e ∷ es) = e .value ∷ valuesIn es
+
+abbrev pub answersIn : List Row → List ℕ
+answersIn [] = []
+answersIn (e ∷ es) = e .answer ∷ answersIn es
+
+abbrev pub refusalsIn : List Row → List ℕ
+refusalsIn [] = []
+refusalsIn (e ∷ es) = e .refusal ∷ refusalsIn es
+
+-- The machine that power-on with N hands back.
+abbrev pub start : ℕ → Machine
+start n = powerOnOf n .machine
+
+-- The machine after a list, from power-on with N.
+abbrev pub after : ℕ → List Row → Machine
+after n es = endOf (start n) (headsIn es) (valuesIn es)
+
+-- A list gets its answers and its refusals, from power-on with N.
+abbrev pub Plays : ℕ → List Row → Type 0
+Plays n es =
+    (answersOf (start n) (headsIn es) (valuesIn es) ≡ answersIn es) × (refusalsOf (start n) (headsIn es) (valuesIn es) ≡ refusalsIn es)
+
+-- Source s is the machine's winner, at rank r.
+abbrev pub Wins : Machine → ℕ → ℕ → Type 0
+Wins m s r = winnerOf (m .controller) ≡ record { source = s; rank = rank r }
+
+-- The margin query is accepted and gives z.
+abbrev pub HasMargin : Machine → ℤ → Type 0
+HasMargin m z = marginAnswer m ≡ record { margin = z; refusal = 0 }
+
+-- A handler by its source, rank and saved rank, and whether it is opened.
+abbrev pub handler : ℕ → ℕ → ℕ → ℕ → Handler
+handler source r saved opened = record { source = source; rank = rank r; saved = rank saved; opened = opened }
+
+-- What a machine holds of its handlers: how many are on the stack, those, the lowest first, and the current rank.
+pub record Held : Type 0 where
+  pub depth : ℕ
+  pub handlers : List Handler
+  pub current : Rank
+
+abbrev pub held : Machine → Held
+held m = record { depth = m .depth; handlers = first (m .depth) (m .stack); current = m .controller .current }
+
+-- It holds so many handlers, these, at this current rank.
+abbrev pub Holds : Machine → ℕ → List Handler → ℕ → Type 0
+Holds m depth handlers current = held m ≡ record { depth = depth; handlers = handlers; current = rank current }
+
+-- K2: source 2 enabled and its line up, but of the rank that field 15 gives when priord is 1.
+abbrev pub mirrored : List Row
+mirrored = store mpiccfg 1 ∷ store (meipl 2) 15 ∷ store (meie 2) 1 ∷ sample 0 4 ∷ mask 1 ∷ []
+
+-- K3: sources 2 and 3 enabled at rank 5, both lines up, interrupts on.
+abbrev pub two-and-three : List Row
+two-and-three =
+    store (meie 2) 1 ∷ store (meie 3) 1 ∷ store (meipl 2) 5 ∷ store (meipl 3) 5 ∷ sample 0 12 ∷ mask 1 ∷ []
+
+-- K4: source 2 enabled at rank 5, its line up, interrupts on, with this threshold.
+abbrev pub threshold : ℕ → List Row
+threshold t = store (meie 2) 1 ∷ store (meipl 2) 5 ∷ sample 0 4 ∷ mask 1 ∷ csrWrite meipt t ∷ []
+
+-- K9: source 3 captured, and meivt written only then, so that an old base would show.
+abbrev pub moved : List Row
+moved =
+    store (meie 3) 1 ∷ store (meipl 3) 5 ∷ sample 0 8 ∷ csrWrite meicpct 0 ∷ csrRead meihap answers 12 ∷ csrWrite meivt 0x12345678 ∷ []
+
+-- K10: sources 1 and 2 enabled at rank 15; 1 taken and opened, then its line down and the line of 2 up.
+abbrev pub both-15 : List Row
+both-15 =
+    store (meie 1) 1
+    ∷ store (meie 2) 1
+    ∷ store (meipl 1) 15
+    ∷ store (meipl 2) 15
+    ∷ sample 0 2
+    ∷ mask 1
+    ∷ take answers 4
+    ∷ open-up answers 15
+    ∷ sample 0 4
+    ∷ []
+
+-- Masked, the handler chains to source 2.
+abbrev pub served-15 : List Row
+served-15 = both-15 ++ (mask 0 ∷ chain answers 8 ∷ [])
+
+-- The listing's ten events, head:value.
+abbrev pub listing-heads : List ℕ
+listing-heads =
+    0x00022008 ∷ 0x00020008 ∷ 0x00000000 ∷ 0x00050000 ∷ 0x00090000 ∷ 0x00050000 ∷ 0x00060000 ∷ 0x00080000 ∷ 0x00090000 ∷ 0x00080000 ∷ []
+
+abbrev pub listing-values : List ℕ
+listing-values = 1 ∷ 5 ∷ 4 ∷ 0 ∷ 1 ∷ 0 ∷ 0 ∷ 0 ∷ 0 ∷ 0 ∷ []
+
+abbrev pub listing-end : Machine
+listing-end = endOf (start 4) listing-heads listing-values
+
+-- Source s enabled at rank r.
+abbrev pub enabled : ℕ → ℕ → List Row
+enabled s r = store (meipl s) r ∷ store (meie s) 1 ∷ []
+
+-- Sources 1 to n enabled, each at the rank that is its number.
+abbrev pub ranked : ℕ → List Row
+ranked zero = []
+ranked (suc n) = ranked n ++ enabled (suc n) (suc n)
+
+-- The line of source s alone up; s taken, with this answer, and opened, of rank s.
+abbrev pub nest : ℕ → ℕ → List Row
+nest s a = sample 0 (2 ^ s) ∷ take answers a ∷ open-up answers s ∷ []
+
+-- The line of source 16 alone up, of the rank of handler 7, which chains to it.
+abbrev pub serve : List Row
+serve = sample 0 (2 ^ 16) ∷ take refused 16 ∷ mask 0 ∷ chain answers 64 ∷ mask 1 ∷ []
+
+-- All n handlers return, one after the other; each return answers how many are still open.
+abbrev pub leave : ℕ → List Row
+leave zero = []
+leave (suc n) = mask 0 ∷ return answers n ∷ leave n
+
+-- Sources 1 to 15 nest, with a chaining by the seventh handler.
+abbrev pub fifteen-up : List Row
+fifteen-up =
+    ranked 15
+    ++ enabled 16 7
+    ++ (mask 1 ∷ [])
+    ++ nest 1 4
+    ++ nest 2 8
+    ++ nest 3 12
+    ++ nest 4 16
+    ++ nest 5 20
+    ++ nest 6 24
+    ++ nest 7 28
+    ++ serve
+    ++ nest 8 32
+    ++ nest 9 36
+    ++ nest 10 40
+    ++ nest 11 44
+    ++ nest 12 48
+    ++ nest 13 52
+    ++ nest 14 56
+    ++ nest 15 60
+
+-- At the height nothing more is taken; all return.
+abbrev pub fifteen-down : List Row
+fifteen-down = take refused 16 ∷ leave 15
+
+-- The handlers at the height.
+abbrev pub fifteen-handlers : List Handler
+fifteen-handlers =
+    handler 1 1 0 1
+    ∷ handler 2 2 1 1
+    ∷ handler 3 3 2 1
+    ∷ handler 4 4 3 1
+    ∷ handler 5 5 4 1
+    ∷ handler 6 6 5 1
+    ∷ handler 16 7 6 1
+    ∷ handler 8 8 7 1
+    ∷ handler 9 9 8 1
+    ∷ handler 10 10 9 1
+    ∷ handler 11 11 10 1
+    ∷ handler 12 12 11 1
+    ∷ handler 13 13 12 1
+    ∷ handler 14 14 13 1
+    ∷ handler 15 15 14 1
+    ∷ []
+
+-- The table.
+pub record Points : Type 0 where
+  -- K1 rank 5, priord set to 1: meipl reads 10.
+  pub k1 : Plays 4 (store (meipl 2) 5 ∷ store mpiccfg 1 ∷ load (meipl 2) answers 10 ∷ [])
+  -- K2 priord 1, field 15 stored: never eligible. It is pending, it reads 15 again, and it is not taken.
+  pub k2 : Plays 4 (mirrored ++ (load (meip 0) answers 4 ∷ load (meipl 2) answers 15 ∷ take refused 16 ∷ []))
+  pub k2-winner : Wins (after 4 mirrored) 0 0
+  pub k2-never : (enable : ℕ) (pending : Bool) → isEligible enable pending (writtenRank 1 15) ≡ false
+  -- K3 sources 2 and 3 at rank 5: 2 wins;
+  pub k3-tie : Wins (after 4 two-and-three) 2 5
+  pub k3-tie-taken : Plays 4 (two-and-three ++ (take answers 8 ∷ []))
+  -- 3 at 6: 3 wins.
+  pub k3-higher : Wins (after 4 (two-and-three ++ (store (meipl 3) 6 ∷ []))) 3 6
+  pub k3-higher-taken : Plays 4 (two-and-three ++ (store (meipl 3) 6 ∷ take answers 12 ∷ []))
+  -- K4 rank 5, threshold 5: margin 0, refusal 16;
+  pub k4-at : HasMargin (after 4 (threshold 5)) (pos 0)
+  pub k4-refused : Plays 4 (threshold 5 ++ (take refused 16 ∷ []))
+  -- threshold 4: taken.
+  pub k4-below : HasMargin (after 4 (threshold 4)) (pos 1)
+  pub k4-taken : Plays 4 (threshold 4 ++ (take answers 8 ∷ []))
+  pub k4-held : Holds (after 4 (threshold 4 ++ (take answers 8 ∷ []))) 1 (handler 2 5 0 0 ∷ []) 0
+  -- K5 edge line up, down: pending; cleared: not.
+  pub k5 :
+      Plays 4
+      (store (meigwctrl 1) 2
+      ∷ sample 0 2
+      ∷ sample 0 0
+      ∷ load (meip 0) answers 2
+      ∷ store (meigwclr 1) 7
+      ∷ load (meip 0) answers 0
+      ∷ [])
+  -- Cleared while up: pending.
+  pub k5-up : Plays 4 (store (meigwctrl 1) 2 ∷ sample 0 2 ∷ store (meigwclr 1) 0 ∷ load (meip 0) answers 2 ∷ [])
+  -- K6 level line up, down, then type 1: pending.
+  pub k6 : Plays 4 (sample 0 2 ∷ sample 0 0 ∷ load (meip 0) answers 0 ∷ store (meigwctrl 1) 2 ∷ load (meip 0) answers 2 ∷ [])
+  -- K7 N 4: offset 0x10 stores, 0x14 drops.
+  pub k7 : Plays 4 (store 0x10 9 ∷ load 0x10 answers 9 ∷ store 0x14 9 ∷ load 0x14 answers 0 ∷ [])
+  pub k7-drops : after 4 (store 0x14 9 ∷ []) ≡ start 4
+  -- K8 0x7FFC reads 0; 0x8002 refusal 10; 0x0002 refusal 11.
+  pub k8 :
+      Plays 4
+      (load 0x7FFC answers 0
+      ∷ load 0x8002 refused 10
+      ∷ store 0x8002 1 refused 10
+      ∷ load 0x0002 refused 11
+      ∷ store 0x0002 1 refused 11
+      ∷ [])
+  -- K9 meivt written 0x12345678, claim 3: meihap 0x1234540C.
+  pub k9 : Plays 4 (moved ++ (csrRead meihap answers 0x1234540C ∷ []))
+  pub k9-claim : after 4 moved .controller .claim ≡ 3
+  -- K10 rank 15 taken and opened, threshold 0, its line down (level), another 15 enabled and pending: take 16;
+  pub k10 : Plays 4 (both-15 ++ (take refused 16 ∷ []))
+  pub k10-winner : Wins (after 4 both-15) 2 15
+  pub k10-margin : HasMargin (after 4 both-15) (pos 0)
+  pub k10-held : Holds (after 4 both-15) 1 (handler 1 15 0 1 ∷ []) 15
+  -- masked, chain serves it.
+  pub k10-served : Plays 4 (served-15 ++ (return answers 0 ∷ []))
+  pub k10-served-held : Holds (after 4 served-15) 1 (handler 2 15 0 1 ∷ []) 15
+  -- "Record with N 4 and ten events": index, kind, answer, refusal.
+  pub listing-answers : answersOf (start 4) listing-heads listing-values ≡ 0 ∷ 0 ∷ 0 ∷ 0 ∷ 0 ∷ 8 ∷ 5 ∷ 0 ∷ 0 ∷ 0 ∷ []
+  pub listing-refusals : refusalsOf (start 4) listing-heads listing-values ≡ 0 ∷ 0 ∷ 0 ∷ 15 ∷ 0 ∷ 0 ∷ 0 ∷ 19 ∷ 0 ∷ 0 ∷ []
+  -- "end open 0 level 0 margin 5"
+  pub listing-held : Holds listing-end 0 [] 0
+  pub listing-margin : HasMargin listing-end (pos 5)
+  -- Fifteen handlers nest, the seventh serves a second source, and all return.
+  pub fifteen : Plays 16 (fifteen-up ++ fifteen-down)
+  pub fifteen-up-held : Holds (after 16 fifteen-up) 15 fifteen-handlers 15
+  pub fifteen-down-held : Holds (after 16 (fifteen-up ++ fifteen-down)) 0 [] 0

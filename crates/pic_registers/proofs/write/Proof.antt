@@ -1,0 +1,95 @@
+use mathlib.Core.Path.{refl, _∙_}
+use Rattle.pic.proofs.Soundness.{facts, settle-kept}
+use Rattle.pic_registers.specs.Registers.{writtenOf}
+use Rattle.pic_registers.proofs.Writes.{gateway-settled, clear-settled}
+use borrow.Author.Needs.{needs}
+use Rattle.pic_registers.proofs.write.Statement.{statement}
+use Rattle.pic_registers.proofs.write.Tie as tie
+
+enum-known-r : tie.Need-enum-known-r
+enum-known-r c = search needs
+
+write-rank-requires : tie.Need-write-rank-requires
+write-rank-requires c κs = search needs
+
+enum-told : tie.Need-enum-told
+enum-told c = search needs
+
+enum-known-r-2 : tie.Need-enum-known-r-2
+enum-known-r-2 c = search needs
+
+write-enable-requires : tie.Need-write-enable-requires
+write-enable-requires c κs = search needs
+
+enum-told-2 : tie.Need-enum-told-2
+enum-told-2 c = search needs
+
+write-priord-requires : tie.Need-write-priord-requires
+write-priord-requires c κs = search needs
+
+enum-known-r-3 : tie.Need-enum-known-r-3
+enum-known-r-3 c = search needs
+
+write-gateway-requires : tie.Need-write-gateway-requires
+write-gateway-requires c κs = search needs
+
+enum-known-r-4 : tie.Need-enum-known-r-4
+enum-known-r-4 c = search needs
+
+clear-latch-requires : tie.Need-clear-latch-requires
+clear-latch-requires c κs = search needs
+
+enum-told-3 : tie.Need-enum-told-3
+enum-told-3 c = search needs
+
+returns : tie.Need-returns
+unfolding writtenOf
+returns c = rw (c .before .before .r .given .1) (c .write-rank .ensures ∙ settle-kept _ _ (facts _ (c .before .before .before .before .pre .0)) refl refl refl refl)
+
+returns-2 : tie.Need-returns-2
+unfolding writtenOf
+returns-2 c = rw (c .enum-told .given .1) (settle-kept _ _ (facts _ (c .before .before .pre .0)) refl refl refl refl)
+
+returns-3 : tie.Need-returns-3
+unfolding writtenOf
+returns-3 c = rw (c .before .before .r2 .given .1) (c .write-enable .ensures ∙ settle-kept _ _ (facts _ (c .before .before .before .before .pre .0)) refl refl refl refl)
+
+returns-4 : tie.Need-returns-4
+unfolding writtenOf
+returns-4 c = rw (c .before .enum-told2 .given .1) (c .write-priord .ensures ∙ settle-kept _ _ (facts _ (c .before .before .before .pre .0)) refl refl refl refl)
+
+returns-5 : tie.Need-returns-5
+unfolding writtenOf
+returns-5 c = rw (c .before .before .r3 .given .1) (c .write-gateway .ensures ∙ gateway-settled _ (facts _ (c .before .before .before .before .pre .0)) _ (rw (c .before .before .r3 .given .1) at (c .before .before .before .before .pre .1)) _)
+
+returns-6 : tie.Need-returns-6
+unfolding writtenOf
+returns-6 c = rw (c .before .before .r4 .given .1) (c .clear-latch .ensures ∙ clear-settled _ (facts _ (c .before .before .before .before .pre .0)) _ (rw (c .before .before .r4 .given .1) at (c .before .before .before .before .pre .1)) 0)
+
+returns-7 : tie.Need-returns-7
+unfolding writtenOf
+returns-7 c = rw (c .enum-told3 .given .1) (settle-kept _ _ (facts _ (c .before .before .pre .0)) refl refl refl refl)
+
+pub write-spec : {M : Type 1} → statement M
+write-spec =
+    tie.close
+    (tie.spec
+    enum-known-r
+    write-rank-requires
+    enum-told
+    enum-known-r-2
+    write-enable-requires
+    enum-told-2
+    write-priord-requires
+    enum-known-r-3
+    write-gateway-requires
+    enum-known-r-4
+    clear-latch-requires
+    enum-told-3
+    returns
+    returns-2
+    returns-3
+    returns-4
+    returns-5
+    returns-6
+    returns-7)

@@ -1,0 +1,56 @@
+use borrow.Author.Needs.{needs}
+use mathlib.Core.Path.{_∙_, sym, ap}
+use lib.ListN.{length}
+use Rattle.record.specs.declared.Verdict.{Verdict}
+use Rattle.record_writer.proofs.Answers.{write-refused, write-accepted}
+use Rattle.record.proofs.Questions.{Writable, writable}
+use Rattle.record_writer.proofs.write_within.Statement.{statement}
+use Rattle.record_writer.proofs.write_within.Tie as tie
+
+ask-writing-requires : tie.Need-ask-writing-requires
+ask-writing-requires c κs = search needs
+
+returns : tie.Need-returns
+returns c =
+    let args = c .before .before .before .before .before .before .args in
+    write-refused (args .limits) (args .sources) (args .heads .now) (args .values .now) (args .bytes .now)
+    (c .before .before .ask-writing .ensures) (c .if1 .taken)
+
+-- Where nothing was refused.
+ok : (c : tie.Else1)
+    → let args = c .before .before .before .before .before .before .args in
+    Writable (args .limits) (args .sources) (args .heads .now) (args .values .now) (length (args .bytes .now))
+ok c = writable _ _ _ _ _ (ap (λ (v : Verdict). v .refusal) (sym (c .before .before .ask-writing .ensures)) ∙ c .if1 .left)
+
+put-record-requires : tie.Need-put-record-requires
+put-record-requires c κs = let h = ok (c .before) in (search needs, search needs, search needs)
+
+mul-t12 : tie.Need-mul-t12
+mul-t12 c = search needs
+
+add-t13 : tie.Need-add-t13
+add-t13 c = let h = ok (c .before .before .before .before) in search needs
+
+same-length : tie.Need-same-length
+same-length c = search needs
+
+returns-2 : tie.Need-returns-2
+returns-2 c =
+    let put = c .before .before in
+    let at-1 = put .before .before in
+    let asked = at-1 .before .before in
+    let args = asked .before .before .before .before .args in
+    write-accepted (args .limits) (args .sources) (args .heads .now) (args .values .now) (args .bytes .now)
+    (asked .ask-writing .ensures) (at-1 .if1 .left) (put .put-record .ensures)
+
+pub write-within-spec : {M : Type 1} → statement M
+write-within-spec =
+    tie.close
+    (tie.spec
+    ask-writing-requires
+    returns
+    put-record-requires
+    mul-t12
+    add-t13
+    same-length
+    returns-2)

@@ -1,0 +1,20 @@
+-- The listing of document 01: the text that is made of its record, computed by the rules.
+use mathlib.Core.Path.{_≡_, refl}
+use mathlib.Core.List.{[], _∷_}
+use Rattle.event.specs.Event.{shapeOf}
+use Rattle.digits.specs.Digits.{digitsTo}
+use Rattle.record.specs.Words.{wordsOf, bytesOfWords}
+use Rattle.record.specs.Record.{recordOf}
+use Rattle.record.specs.Questions.{readVerdict, walkFrom}
+use Rattle.record.specs.Answers.{accepted}
+use Rattle.text_reader.proofs.Points.{listing, heads, values}
+use Rattle.text_writer.specs.Writing.{eventsText, textOf}
+use Rattle.text_writer.specs.Answers.{toTextAnswer}
+
+pub listing-told : textOf (recordOf 4 heads values) ≡ listing
+unfolding eventsText digitsTo wordsOf bytesOfWords
+listing-told = refl
+
+pub listing-length : toTextAnswer (recordOf 4 heads values) ≡ accepted (112 ∷ [])
+unfolding eventsText digitsTo wordsOf bytesOfWords readVerdict walkFrom shapeOf
+listing-length = refl
