@@ -4,7 +4,7 @@ use std::io::{self, Write};
 use std::process::ExitCode;
 
 /// The bytes that the array for a print must have.
-const PRINT_SIZE: usize = 88143;
+const PRINT_SIZE: usize = 92143;
 
 extern "C" {
     // A slice of Rattle is a pointer and a length.

@@ -11,7 +11,7 @@ extern "C" {
 #endif
 
 /* The bytes that the array for a print must have: no record prints more. */
-#define VEER_EH1_PRINT_SIZE 88143
+#define VEER_EH1_PRINT_SIZE 92143
 
 /* Plays a record, and writes what the player prints of it.
 
@@ -22,9 +22,9 @@ extern "C" {
    line feed, with no 0 at the end; the bytes after it stay as they were. If print_length is less, the answer is 0, nothing is played, and the array stays as it was.
 
    This is proved for every record and every array: the answer is printedLength and the array printedInto of crates/playback/specs/Print.antt. No print is
-   empty (print-some, crates/playback/proofs/Reading.antt), so an answer of 0 says that the array is too short.
+   empty (print-not-empty, crates/playback/proofs/Reading.antt), so an answer of 0 says that the array is too short.
 
-   The call keeps nothing between two calls and uses no heap, so it may run in several threads at once, each with its own array. It needs some 72 KB of stack,
+   The call keeps nothing between two calls and uses no heap, so it may run in several threads at once, each with its own array. It needs some 62 KB of stack,
    as measured with valgrind's massif; that is not proved. */
 size_t veer_eh1_play(const uint8_t *record, size_t record_length, uint8_t *print, size_t print_length);
 

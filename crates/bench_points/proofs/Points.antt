@@ -1,44 +1,45 @@
 -- The table of bench points: each is what the rules compute.
-use Prim.Native.Nat.{ℕ}
 use mathlib.Core.Path.{_≡_, refl}
-use mathlib.Core.Bool.{Bool, true, false, _&&_}
 use mathlib.Core.List.{[], _++_}
-use lib.Dec.{eqb}
 use Rattle.event.specs.Event.{shapeOf}
+use Rattle.event.specs.Listing.{listingSources, listingHeads, listingValues}
 use Rattle.pic_source.specs.Ranks.{mirror}
-use Rattle.pic.specs.Sources.{latchesTo, winnerTo, isEligible, entryOf, betterOf, higherOf, gapOf}
 use Rattle.pic_source.specs.Sources.{isPending}
+use Rattle.pic.specs.Sources.{winnerTo, isEligible, entryOf, betterOf, higherOf, differenceOf}
 use Rattle.pic.specs.Sound.{sourceSound}
 use Rattle.pic.specs.Sound as sound
-use Rattle.pic_registers.specs.Registers.{linesTo, joinOf, pendingTo, readOf, writtenRank, writtenOf}
-use Rattle.pic_csrs.specs.Values.{csrValue, csrWritten}
-use Rattle.pic_registers.specs.Offsets.{sourceRegister, pageRegister, offsetRefusal}
-use Rattle.pic_csrs.specs.Addresses.{csrAt}
 use Rattle.pic.specs.Calls as calls
+use Rattle.pic_registers.specs.Words.{joinOf, wordTo, placesTo}
+use Rattle.pic_registers.specs.Registers.{readOf, writtenOf}
+use Rattle.pic_registers.specs.Offsets.{sourceRegister, pageRegister, offsetRefusal}
 use Rattle.pic_registers.specs.Calls as registers
+use Rattle.pic_csrs.specs.Addresses.{csrAt}
+use Rattle.pic_csrs.specs.Values.{csrValue, csrWritten}
 use Rattle.pic_csrs.specs.Calls as csrs
-use Rattle.handlers.specs.Machines.{powerOnOf, stackSound, soundOf}
 use Rattle.handlers_stack.specs.Stacks.{handlerSound, belowOf, handlersSound, levelOf}
-use Rattle.handlers.specs.Service.{sampleOf, loadOf, storeOf, csrReadOf, csrWriteOf, marginAnswer, takeOf, openOf, chainOf, returnOf, setMaskOf, eventOf, stepOf}
+use Rattle.handlers.specs.Machines.{powerOnOf, soundOf}
+use Rattle.handlers.specs.Service.{sampleEvent, loadEvent, storeEvent, csrReadEvent, csrWriteEvent, takeEvent, openEvent, chainEvent, returnEvent, setMaskEvent, eventOf, soundStepOf}
+use Rattle.handlers.specs.Calls.{stepOf, marginAnswer}
+use Rattle.handlers_laws.proofs.Ranks.{rank-kept, field-15-never}
 use Rattle.claims.specs.Play.{endOf, eachOf}
-use Rattle.bench_points.specs.Points.{Points, Plays, Holds, after, fifteen-up, fifteen-down, fifteen-handlers}
+use Rattle.digits.specs.Digits.{digitsTo}
+use Rattle.record.specs.Words.{wordsOf, bytesOfWords}
+use Rattle.record.specs.Record.{recordOf}
+use Rattle.record.specs.Questions.{readVerdict, walkFrom}
+use Rattle.playback.specs.Text.{ascii}
+use Rattle.playback.specs.Print.{eventLines, printOf}
+use Rattle.bench_points.specs.Points.{Points, Plays, Holds, after, listing-text, fifteen-up, fifteen-down, fifteen-handlers}
 
 -- To unfold this is to unfold every rule.
 rules : Unit {0}
-unfolding endOf eachOf stepOf eventOf sampleOf loadOf storeOf csrReadOf csrWriteOf takeOf openOf chainOf returnOf setMaskOf marginAnswer soundOf stackSound handlersSound handlerSound belowOf levelOf powerOnOf shapeOf calls.powerOnOf registers.sampleOf offsetRefusal registers.loadOf registers.storeOf csrs.csrReadOf csrs.csrWriteOf calls.marginAnswer calls.captureOf sound.soundOf sound.sourcesSound sourceSound latchesTo isPending isEligible entryOf betterOf winnerTo higherOf gapOf linesTo sourceRegister pageRegister joinOf pendingTo readOf writtenOf csrAt csrValue csrWritten mirror
+unfolding printOf eventLines ascii digitsTo readVerdict walkFrom wordsOf bytesOfWords endOf eachOf stepOf soundStepOf eventOf sampleEvent loadEvent storeEvent csrReadEvent csrWriteEvent takeEvent openEvent chainEvent returnEvent setMaskEvent marginAnswer soundOf handlersSound handlerSound belowOf levelOf powerOnOf shapeOf calls.powerOnOf calls.sourceCount calls.currentRank calls.setCurrent calls.meihapOf calls.captureOf calls.lookOf registers.sampleOf registers.loadOf registers.storeOf csrs.csrReadOf csrs.csrWriteOf sound.soundOf sound.sourcesSound sourceSound isPending isEligible entryOf betterOf winnerTo higherOf differenceOf joinOf wordTo placesTo sourceRegister pageRegister offsetRefusal readOf writtenOf csrAt csrValue csrWritten mirror
 rules = tt
 
--- A source of rank 0 is not eligible.
-never : (enable : ℕ) (pending : Bool) → isEligible enable pending (writtenRank 1 15) ≡ false
+-- The whole print and the long list apart from the table, since what one declaration may compute is limited.
+listing-print : printOf (recordOf listingSources listingHeads listingValues) ≡ ascii listing-text
 unfolding rules
-never enable pending = go (eqb enable 1) pending
-  where
-    go : (a b : Bool) → a && b && false ≡ false
-    go true true = refl
-    go true false = refl
-    go false b = refl
+listing-print = refl
 
--- The long list apart from the table, since what one declaration may compute is limited.
 fifteen : Plays 16 (fifteen-up ++ fifteen-down)
 unfolding rules
 fifteen = (refl, refl)
@@ -58,7 +59,8 @@ points =
       k1 = (refl, refl);
       k2 = (refl, refl);
       k2-winner = refl;
-      k2-never = never;
+      k2-never = field-15-never;
+      k2-kept = rank-kept;
       k3-tie = refl;
       k3-tie-taken = (refl, refl);
       k3-higher = refl;
@@ -68,6 +70,7 @@ points =
       k4-below = refl;
       k4-taken = (refl, refl);
       k4-held = refl;
+      k4-above = refl;
       k5 = (refl, refl);
       k5-up = (refl, refl);
       k6 = (refl, refl);
@@ -82,10 +85,20 @@ points =
       k10-held = refl;
       k10-served = (refl, refl);
       k10-served-held = refl;
+      margin-most = refl;
+      margin-at-threshold = refl;
+      margin-at-current = refl;
+      margin-none = refl;
+      margin-least-threshold = refl;
+      margin-least-current = refl;
       listing-answers = refl;
       listing-refusals = refl;
       listing-held = refl;
       listing-margin = refl;
+      listing-print = listing-print;
+      print-refused = refl;
+      print-of-nothing = refl;
+      print-below = refl;
       fifteen = fifteen;
       fifteen-up-held = fifteen-up-held;
       fifteen-down-held = fifteen-down-held;

@@ -1,20 +1,26 @@
--- Document 01, "Bench points K1 to K10", the listing of "The player", and a list that nests fifteen handlers: one table about the rules. Each point is a
--- list of events played from power-on, each event with what it must answer or be refused with, and what the machine must hold after it.
-use Prim.Native.Nat.{ℕ, zero, suc, _+_, _*_, _^_}
+-- Document 01, "Bench points K1 to K10", the ends of the margin, the listing of "The player", and a list that nests fifteen handlers: one table about the
+-- rules. Each point is a list of events played from power-on, each event with what it must answer or be refused with, and what the machine must hold after it.
+use Prim.Native.Nat.{ℕ, zero, suc, _+_, _*_, _^_, _≤_}
+use Prim.Native.String.{String}
 use mathlib.Core.Path.{_≡_}
-use mathlib.Core.Bool.{Bool, false}
+use mathlib.Core.Bool.{true, false}
 use mathlib.Core.List.{List, [], _∷_, _++_}
 use lib.ListN.{take as first}
-use lib.IntN.{ℤ, pos}
+use lib.IntN.{ℤ, pos, negsuc}
+use Rattle.event.specs.Event.{kindOf, addressOf}
+use Rattle.event.specs.Listing.{listingSources, listingHeads, listingValues}
 use Rattle.pic_source.specs.declared.Rank.{Rank}
 use Rattle.pic_source.specs.Ranks.{rank}
-use Rattle.pic.specs.Sources.{winnerOf, isEligible}
-use Rattle.pic_registers.specs.Registers.{writtenRank}
+use Rattle.pic.specs.Sources.{rankAt, eligibleAt, winnerOf}
+use Rattle.pic.specs.Calls.{sourceCount, currentRank}
 use Rattle.handlers_stack.specs.declared.Handler.{Handler}
 use Rattle.handlers.specs.declared.Machine.{Machine}
-use Rattle.handlers.specs.Machines.{powerOnOf}
-use Rattle.handlers.specs.Service.{marginAnswer}
+use Rattle.handlers.specs.Machines.{soundOf, powerOnOf}
+use Rattle.handlers.specs.Calls.{storeOf, stepOf, marginAnswer}
 use Rattle.claims.specs.Play.{endOf, answersOf, refusalsOf}
+use Rattle.record.specs.Record.{recordOf}
+use Rattle.playback.specs.Text.{ascii}
+use Rattle.playback.specs.Print.{endLine, printOf}
 
 -- A row: an event, "a head and a value", with the answer and the refusal that it must get.
 pub record Row : Type 0 where
@@ -56,8 +62,8 @@ csrWrite a v = event 4 a v
 abbrev pub take : Row
 take = event 5 0 0
 
-abbrev pub open-up : Row
-open-up = event 6 0 0
+abbrev pub open-handler : Row
+open-handler = event 6 0 0
 
 abbrev pub chain : Row
 chain = event 7 0 0
@@ -96,25 +102,28 @@ meipt = 0xBC9
 abbrev pub meicpct : ℕ
 meicpct = 0xBCA
 
+abbrev pub meicurpl : ℕ
+meicurpl = 0xBCC
+
 abbrev pub meihap : ℕ
 meihap = 0xFC8
 
 -- The columns of a list of rows.
-abbrev pub headsIn : List Row → List ℕ
-headsIn [] = []
-headsIn (e ∷ es) = e .head ∷ headsIn es
+abbrev pub headColumn : List Row → List ℕ
+headColumn [] = []
+headColumn (e ∷ es) = e .head ∷ headColumn es
 
-abbrev pub valuesIn : List Row → List ℕ
-valuesIn [] = []
-valuesIn (e ∷ es) = e .value ∷ valuesIn es
+abbrev pub valueColumn : List Row → List ℕ
+valueColumn [] = []
+valueColumn (e ∷ es) = e .value ∷ valueColumn es
 
-abbrev pub answersIn : List Row → List ℕ
-answersIn [] = []
-answersIn (e ∷ es) = e .answer ∷ answersIn es
+abbrev pub answerColumn : List Row → List ℕ
+answerColumn [] = []
+answerColumn (e ∷ es) = e .answer ∷ answerColumn es
 
-abbrev pub refusalsIn : List Row → List ℕ
-refusalsIn [] = []
-refusalsIn (e ∷ es) = e .refusal ∷ refusalsIn es
+abbrev pub refusalColumn : List Row → List ℕ
+refusalColumn [] = []
+refusalColumn (e ∷ es) = e .refusal ∷ refusalColumn es
 
 -- The machine that power-on with N hands back.
 abbrev pub start : ℕ → Machine
@@ -122,12 +131,12 @@ start n = powerOnOf n .machine
 
 -- The machine after a list, from power-on with N.
 abbrev pub after : ℕ → List Row → Machine
-after n es = endOf (start n) (headsIn es) (valuesIn es)
+after n es = endOf (start n) (headColumn es) (valueColumn es)
 
 -- A list gets its answers and its refusals, from power-on with N.
 abbrev pub Plays : ℕ → List Row → Type 0
 Plays n es =
-    (answersOf (start n) (headsIn es) (valuesIn es) ≡ answersIn es) × (refusalsOf (start n) (headsIn es) (valuesIn es) ≡ refusalsIn es)
+    (answersOf (start n) (headColumn es) (valueColumn es) ≡ answerColumn es) × (refusalsOf (start n) (headColumn es) (valueColumn es) ≡ refusalColumn es)
 
 -- Source s is the machine's winner, at rank r.
 abbrev pub Wins : Machine → ℕ → ℕ → Type 0
@@ -142,17 +151,17 @@ abbrev pub handler : ℕ → ℕ → ℕ → ℕ → Handler
 handler source r saved opened = record { source = source; rank = rank r; saved = rank saved; opened = opened }
 
 -- What a machine holds of its handlers: how many are on the stack, those, the lowest first, and the current rank.
-pub record Held : Type 0 where
+pub record Handlers : Type 0 where
   pub depth : ℕ
   pub handlers : List Handler
   pub current : Rank
 
-abbrev pub held : Machine → Held
-held m = record { depth = m .depth; handlers = first (m .depth) (m .stack); current = m .controller .current }
+abbrev pub handlersOf : Machine → Handlers
+handlersOf m = record { depth = m .depth; handlers = first (m .depth) (m .stack); current = currentRank (m .controller) }
 
 -- It holds so many handlers, these, at this current rank.
 abbrev pub Holds : Machine → ℕ → List Handler → ℕ → Type 0
-Holds m depth handlers current = held m ≡ record { depth = depth; handlers = handlers; current = rank current }
+Holds m depth handlers current = handlersOf m ≡ record { depth = depth; handlers = handlers; current = rank current }
 
 -- K2: source 2 enabled and its line up, but of the rank that field 15 gives when priord is 1.
 abbrev pub mirrored : List Row
@@ -182,7 +191,7 @@ both-15 =
     ∷ sample 0 2
     ∷ mask 1
     ∷ take answers 4
-    ∷ open-up answers 15
+    ∷ open-handler answers 15
     ∷ sample 0 4
     ∷ []
 
@@ -190,16 +199,21 @@ both-15 =
 abbrev pub served-15 : List Row
 served-15 = both-15 ++ (mask 0 ∷ chain answers 8 ∷ [])
 
--- The listing's ten events, head:value.
-abbrev pub listing-heads : List ℕ
-listing-heads =
-    0x00022008 ∷ 0x00020008 ∷ 0x00000000 ∷ 0x00050000 ∷ 0x00090000 ∷ 0x00050000 ∷ 0x00060000 ∷ 0x00080000 ∷ 0x00090000 ∷ 0x00080000 ∷ []
+-- No source is pending, with this threshold and this current rank; and source 1 enabled at rank 15, its line up, with the same.
+abbrev pub over : ℕ → ℕ → List Row
+over t c = csrWrite meipt t ∷ csrWrite meicurpl c ∷ []
 
-abbrev pub listing-values : List ℕ
-listing-values = 1 ∷ 5 ∷ 4 ∷ 0 ∷ 1 ∷ 0 ∷ 0 ∷ 0 ∷ 0 ∷ 0 ∷ []
+abbrev pub highest : ℕ → ℕ → List Row
+highest t c = store (meie 1) 1 ∷ store (meipl 1) 15 ∷ sample 0 2 ∷ over t c
 
+-- The machine after the listing.
 abbrev pub listing-end : Machine
-listing-end = endOf (start 4) listing-heads listing-values
+listing-end = endOf (start listingSources) listingHeads listingValues
+
+-- Its print.
+abbrev pub listing-text : String
+listing-text =
+    "sources 4 events 10\n0 2 0 0\n1 2 0 0\n2 0 0 0\n3 5 0 15\n4 9 0 0\n5 5 8 0\n6 6 5 0\n7 8 0 19\n8 9 0 0\n9 8 0 0\nend open 0 level 0 margin 5\n"
 
 -- Source s enabled at rank r.
 abbrev pub enabled : ℕ → ℕ → List Row
@@ -212,7 +226,7 @@ ranked (suc n) = ranked n ++ enabled (suc n) (suc n)
 
 -- The line of source s alone up; s taken, with this answer, and opened, of rank s.
 abbrev pub nest : ℕ → ℕ → List Row
-nest s a = sample 0 (2 ^ s) ∷ take answers a ∷ open-up answers s ∷ []
+nest s a = sample 0 (2 ^ s) ∷ take answers a ∷ open-handler answers s ∷ []
 
 -- The line of source 16 alone up, of the rank of handler 7, which chains to it.
 abbrev pub serve : List Row
@@ -277,7 +291,11 @@ pub record Points : Type 0 where
   -- K2 priord 1, field 15 stored: never eligible. It is pending, it reads 15 again, and it is not taken.
   pub k2 : Plays 4 (mirrored ++ (load (meip 0) answers 4 ∷ load (meipl 2) answers 15 ∷ take refused 16 ∷ []))
   pub k2-winner : Wins (after 4 mirrored) 0 0
-  pub k2-never : (enable : ℕ) (pending : Bool) → isEligible enable pending (writtenRank 1 15) ≡ false
+  -- So for every sound machine with priord 1 and every source; and no event that is not a store to that register changes its rank.
+  pub k2-never : (m : Machine) (s : ℕ) → soundOf m ≡ true → m .controller .scalars .priord ≡ 1 → 1 ≤ s → s ≤ sourceCount (m .controller)
+      → eligibleAt (storeOf m (meipl s) 15 .machine .controller) s ≡ false
+  pub k2-kept : (m : Machine) (head value s : ℕ) → (kindOf head ≡ 2 → addressOf head ≡ meipl s → ⊥)
+      → rankAt (stepOf m head value .machine .controller) s ≡ rankAt (m .controller) s
   -- K3 sources 2 and 3 at rank 5: 2 wins;
   pub k3-tie : Wins (after 4 two-and-three) 2 5
   pub k3-tie-taken : Plays 4 (two-and-three ++ (take answers 8 ∷ []))
@@ -291,6 +309,7 @@ pub record Points : Type 0 where
   pub k4-below : HasMargin (after 4 (threshold 4)) (pos 1)
   pub k4-taken : Plays 4 (threshold 4 ++ (take answers 8 ∷ []))
   pub k4-held : Holds (after 4 (threshold 4 ++ (take answers 8 ∷ []))) 1 (handler 2 5 0 0 ∷ []) 0
+  pub k4-above : HasMargin (after 4 (threshold 15)) (negsuc 9)
   -- K5 edge line up, down: pending; cleared: not.
   pub k5 :
       Plays 4
@@ -319,7 +338,7 @@ pub record Points : Type 0 where
       ∷ [])
   -- K9 meivt written 0x12345678, claim 3: meihap 0x1234540C.
   pub k9 : Plays 4 (moved ++ (csrRead meihap answers 0x1234540C ∷ []))
-  pub k9-claim : after 4 moved .controller .claim ≡ 3
+  pub k9-claim : after 4 moved .controller .scalars .claim ≡ 3
   -- K10 rank 15 taken and opened, threshold 0, its line down (level), another 15 enabled and pending: take 16;
   pub k10 : Plays 4 (both-15 ++ (take refused 16 ∷ []))
   pub k10-winner : Wins (after 4 both-15) 2 15
@@ -328,12 +347,27 @@ pub record Points : Type 0 where
   -- masked, chain serves it.
   pub k10-served : Plays 4 (served-15 ++ (return answers 0 ∷ []))
   pub k10-served-held : Holds (after 4 served-15) 1 (handler 2 15 0 1 ∷ []) 15
+  -- "A signed number from −15 to 15", exact at zero and at both ends: the highest winner over rank 0, the same over threshold 15 and over current rank 15,
+  -- and no winner under each of the two.
+  pub margin-most : HasMargin (after 4 (highest 0 0)) (pos 15)
+  pub margin-at-threshold : HasMargin (after 4 (highest 15 0)) (pos 0)
+  pub margin-at-current : HasMargin (after 4 (highest 0 15)) (pos 0)
+  pub margin-none : HasMargin (start 4) (pos 0)
+  pub margin-least-threshold : HasMargin (after 4 (over 15 0)) (negsuc 14)
+  pub margin-least-current : HasMargin (after 4 (over 0 15)) (negsuc 14)
   -- "Record with N 4 and ten events": index, kind, answer, refusal.
-  pub listing-answers : answersOf (start 4) listing-heads listing-values ≡ 0 ∷ 0 ∷ 0 ∷ 0 ∷ 0 ∷ 8 ∷ 5 ∷ 0 ∷ 0 ∷ 0 ∷ []
-  pub listing-refusals : refusalsOf (start 4) listing-heads listing-values ≡ 0 ∷ 0 ∷ 0 ∷ 15 ∷ 0 ∷ 0 ∷ 0 ∷ 19 ∷ 0 ∷ 0 ∷ []
+  pub listing-answers : answersOf (start listingSources) listingHeads listingValues ≡ 0 ∷ 0 ∷ 0 ∷ 0 ∷ 0 ∷ 8 ∷ 5 ∷ 0 ∷ 0 ∷ 0 ∷ []
+  pub listing-refusals : refusalsOf (start listingSources) listingHeads listingValues ≡ 0 ∷ 0 ∷ 0 ∷ 15 ∷ 0 ∷ 0 ∷ 0 ∷ 19 ∷ 0 ∷ 0 ∷ []
   -- "end open 0 level 0 margin 5"
   pub listing-held : Holds listing-end 0 [] 0
   pub listing-margin : HasMargin listing-end (pos 5)
+  -- "The print, whole"
+  pub listing-print : printOf (recordOf listingSources listingHeads listingValues) ≡ ascii listing-text
+  -- "A bad record prints only, say, `refused 4 at 0`": sizes of four events, with none there. And no byte at all.
+  pub print-refused : printOf (4 ∷ 0 ∷ 0 ∷ 0 ∷ 4 ∷ 0 ∷ 0 ∷ 0 ∷ []) ≡ ascii "refused 4 at 0\n"
+  pub print-of-nothing : printOf [] ≡ ascii "refused 1 at 0\n"
+  -- A margin below 0 is printed with its sign.
+  pub print-below : endLine (after 4 (over 0 15)) ≡ ascii "end open 0 level 15 margin -15\n"
   -- Fifteen handlers nest, the seventh serves a second source, and all return.
   pub fifteen : Plays 16 (fifteen-up ++ fifteen-down)
   pub fifteen-up-held : Holds (after 16 fifteen-up) 15 fifteen-handlers 15

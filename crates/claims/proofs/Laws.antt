@@ -9,18 +9,18 @@ use lib.Dec.{eqb}
 use lib.IntN.{pos}
 use lib.Signed.{ltZ}
 use borrow.Author.Tests.{eqb-true, ltb-true, ne-eqb}
-use Rattle.event.specs.Event.{kindOf}
+use Rattle.event.specs.Event.{kindOf, addressOf}
 use Rattle.pic.specs.declared.Controller.{Controller}
-use Rattle.pic.specs.declared.Capture.{Capture}
+use Rattle.pic.specs.declared.Look.{Look}
 use Rattle.pic.specs.declared.Outcome as controller
 use Rattle.pic_source.specs.declared.Rank.{Rank}
-use Rattle.pic.specs.Sources.{rankAt, enableAt, pendingAt}
-use Rattle.pic.specs.Sound as pic
-use Rattle.pic.specs.Calls as calls
+use Rattle.pic.specs.Sources.{rankAt, enableAt, pendingAt, thresholdOf}
+use Rattle.pic.specs.Calls.{sourceCount}
 use Rattle.pic_registers.specs.Calls as registers
 use Rattle.pic_csrs.specs.Calls as csrs
 use Rattle.pic_source.proofs.Bools.{and-parts, le-cases}
-use Rattle.pic_laws.proofs.Captures.{Captured, captured-served, margin-over, above-over}
+use Rattle.pic_laws.proofs.Kept.{current-is}
+use Rattle.pic_laws.proofs.Captures.{Found, look-found, margin-over, above-over}
 use Rattle.pic.proofs.Winning.{eligible-parts, eligible-is}
 use Rattle.nesting.specs.Claim.{isOther, Does, Pushed, Swapped, Laws}
 use Rattle.nesting.specs.Held.{held}
@@ -31,16 +31,17 @@ use Rattle.handlers.specs.declared.Outcome.{Outcome}
 use Rattle.handlers.specs.Fields.{withMask}
 use Rattle.handlers_stack.specs.Stacks.{blank}
 use Rattle.handlers.specs.Machines.{uppermost, powerOnOf}
-use Rattle.handlers.specs.Service.{accepted, refused, lifted, newHandler, taken, marked, serves, replaced, chained, stepOf}
-use Rattle.handlers.proofs.Facts.{facts, Sound, room}
+use Rattle.handlers.specs.Service.{accepted, refused, lifted, lookAt, newHandler, taken, marked, serves, replaced, chained}
+use Rattle.handlers.specs.Calls.{stepOf}
+use Rattle.handlers_laws.proofs.Facts.{facts, Sound, room}
 use Rattle.handlers_laws.proofs.Cases.{step-cases}
-use Rattle.handlers_laws.proofs.Kept.{Ready, step-ready, power-on-ready, power-on-empty, top-current}
+use Rattle.handlers_laws.proofs.Kept.{Ready, step-ready, power-on-ready, power-on-empty, top-current, one-more}
 use Rattle.claims.specs.Nested.{word, answerOf, classBy, seen, Won, eh1, Demand3}
 
 -- A served winner above the threshold is the one to serve.
-won : (c : Controller) (k : Capture) → Captured c k → c .threshold .0 < k .winner .rank .0 → Won c (k .winner .source)
+won : (c : Controller) (k : Look) → Found c k → thresholdOf (c .scalars) .0 < k .winner .rank .0 → Won c (k .winner .source)
 won c k h a =
-    let s = h .served in
+    let s = h .winner in
     let p = eligible-parts c (k .winner .source) (s .eligible .eligible) in
     let r : k .winner .rank .0 ≡ rankAt c (k .winner .source) .0 = ap (λ (z : Rank). z .0) (s .ranked) in
     record {
@@ -52,9 +53,9 @@ won c k h a =
       best = λ t l m e q d. rw (sym r) (low t l m e q d (le-cases 1 (rankAt c t .0)));
     }
   where
-    low : (t : ℕ) → 1 ≤ t → t ≤ c .sources → enableAt c t ≡ 1 → pendingAt c t ≡ true → (t ≡ k .winner .source → ⊥) → (1 ≤ rankAt c t .0) ⊎ (rankAt c t .0 < 1)
+    low : (t : ℕ) → 1 ≤ t → t ≤ sourceCount c → enableAt c t ≡ 1 → pendingAt c t ≡ true → (t ≡ k .winner .source → ⊥) → (1 ≤ rankAt c t .0) ⊎ (rankAt c t .0 < 1)
         → (rankAt c t .0 < k .winner .rank .0) ⊎ ((rankAt c t .0 ≡ k .winner .rank .0) × (k .winner .source < t))
-    low t l m e q d (inl b) = h .served .best t (record { least = l; most = m; eligible = eligible-is c t e q b }) d
+    low t l m e q d (inl b) = h .winner .best t (record { least = l; most = m; eligible = eligible-is c t e q b }) d
     low t l m e q d (inr b) = inl (omega (arith, a, b))
 
 -- What an outcome of an event of this kind does to the stack, by its class.
@@ -70,49 +71,49 @@ module _ (m : Machine) (r : Ready m) where
   sound-here = facts m (r .isSound)
 
   -- Take pushes.
-  taken-pushes : (m .mask ≡ 0 → ⊥) → ltZ (pos 0) (calls.captureOf (m .controller) .margin) ≡ true
-      → Pushed eh1 m (answerOf (accepted (taken m) (calls.captureOf (m .controller) .meihap))) (taken m)
+  taken-pushes : (m .mask ≡ 0 → ⊥) → ltZ (pos 0) (lookAt m .margin) ≡ true
+      → Pushed eh1 m (answerOf (accepted (taken m) (lookAt m .meihap))) (taken m)
   taken-pushes h g =
       let c = m .controller in
       let s = sound-here in
-      let o = margin-over c (s .controller) g in
-      let k = captured-served c (s .controller) (omega (arith, o .0)) in
+      let o = margin-over c g in
+      let k = look-found c (s .controller) (omega (arith, o .threshold)) in
       let d = room m s h g in
       record {
         new = seen (newHandler m);
-        pushed = held-push seen (m .stack) (m .depth) (newHandler m) (omega (arith, r .places, d));
-        serves = record { names = k .names; ranked = ap (λ (z : Rank). z .0) (k .served .ranked) };
-        won = won c (calls.captureOf c) k (o .0);
+        pushed = rw (one-more m r h g) (held-push seen (m .stack) (m .depth) (newHandler m) (omega (arith, r .places, d)));
+        serves = record { names = k .names; ranked = ap (λ (z : Rank). z .0) (k .winner .ranked) };
+        won = won c (lookAt m) k (o .threshold);
         saved = refl;
         above = λ rest top e.
             let t = held-top seen (m .stack) (m .depth) blank rest top (omega (arith, r .places, d)) e in
             let q : top .rank ≡ uppermost m .rank .0 = ap (λ z. z .rank) (t .1) in
-            omega (arith, q, o .1, top-current m (s .stack) h (t .0));
-        inRange = (omega (arith, o .0), k .rank-most);
+            omega (arith, q, o .current, top-current m s h (t .0));
+        inRange = (omega (arith, o .threshold), k .rank-most);
       }
 
   deep : m .depth ≤ length (m .stack)
-  deep = omega (arith, r .places, sound-here .stack .few)
+  deep = omega (arith, r .places, sound-here .few)
 
   -- Chain replaces the uppermost.
   chained-swaps : 0 < m .depth → serves m ≡ true
-      → (calls.captureOf (m .controller) .meihap ≡ 0 → ⊥) × Swapped eh1 m (answerOf (accepted (chained m) (calls.captureOf (m .controller) .meihap))) (chained m)
+      → (lookAt m .meihap ≡ 0 → ⊥) × Swapped eh1 m (answerOf (accepted (chained m) (lookAt m .meihap))) (chained m)
   chained-swaps d e =
       let c = m .controller in
       let s = sound-here in
-      let p = and-parts (eqb (calls.captureOf c .winner .rank .0) (uppermost m .rank .0)) (calls.captureOf c .above) e in
-      let g : calls.captureOf c .winner .rank .0 ≡ uppermost m .rank .0 = eqb-true _ _ (p .0) in
-      let a = above-over c (s .controller) (p .1) in
-      let k = captured-served c (s .controller) (omega (arith, a)) in (
-        (λ z. omega (arith, z, k .names, k .served .eligible .least)),
+      let p = and-parts (eqb (lookAt m .winner .rank .0) (uppermost m .rank .0)) (lookAt m .above) e in
+      let g : lookAt m .winner .rank .0 ≡ uppermost m .rank .0 = eqb-true _ _ (p .0) in
+      let a = above-over c (p .1) in
+      let k = look-found c (s .controller) (omega (arith, a)) in (
+        (λ z. omega (arith, z, k .names, k .winner .eligible .least)),
         record {
           rest = held seen (m .stack) (m .depth - 1);
           old = seen (uppermost m);
-          new = seen (replaced (uppermost m) (calls.captureOf c .winner .source));
+          new = seen (replaced (uppermost m) (lookAt m .winner .source));
           was = held-pop seen (m .stack) (m .depth) blank d deep;
-          is = held-swap seen (m .stack) (m .depth) (replaced (uppermost m) (calls.captureOf c .winner .source)) d deep;
-          serves = record { names = k .names; ranked = sym g ∙ ap (λ (z : Rank). z .0) (k .served .ranked) };
-          won = won c (calls.captureOf c) k a;
+          is = held-swap seen (m .stack) (m .depth) (replaced (uppermost m) (lookAt m .winner .source)) d deep;
+          serves = record { names = k .names; ranked = sym g ∙ ap (λ (z : Rank). z .0) (k .winner .ranked) };
+          won = won c (lookAt m) k a;
           same-rank = refl;
           same-saved = refl;
         },
@@ -133,24 +134,27 @@ module _ (m : Machine) (r : Ready m) where
 
   step-does : (head value : ℕ) → DoesBy (kindOf head) m (stepOf m head value)
   step-does head v =
-      step-cases m v (λ k o. DoesBy k m o)
+      let a = addressOf head in
+      step-cases m head v (λ k o. DoesBy k m o)
       (record {
         refuses = λ k q n. refused-does k m q n;
-        samples = λ x. controller-does 0 (λ e. omega arith) (λ e. omega arith) (λ e. omega arith) (registers.sampleOf (m .controller) x v);
-        loads = λ o. controller-does 1 (λ e. omega arith) (λ e. omega arith) (λ e. omega arith) (registers.loadOf (m .controller) o);
-        stores = λ o. controller-does 2 (λ e. omega arith) (λ e. omega arith) (λ e. omega arith) (registers.storeOf (m .controller) o v);
-        reads = λ a. controller-does 3 (λ e. omega arith) (λ e. omega arith) (λ e. omega arith) (csrs.csrReadOf (m .controller) a);
-        writes = λ a f. controller-does 4 (λ e. omega arith) (λ e. omega arith) (λ e. omega arith) (csrs.csrWriteOf (m .controller) a v);
+        samples = controller-does 0 (λ e. omega arith) (λ e. omega arith) (λ e. omega arith) (registers.sampleOf (m .controller) a v);
+        loads = controller-does 1 (λ e. omega arith) (λ e. omega arith) (λ e. omega arith) (registers.loadOf (m .controller) a);
+        stores = controller-does 2 (λ e. omega arith) (λ e. omega arith) (λ e. omega arith) (registers.storeOf (m .controller) a v);
+        reads = controller-does 3 (λ e. omega arith) (λ e. omega arith) (λ e. omega arith) (csrs.csrReadOf (m .controller) a);
+        writes = λ f. controller-does 4 (λ e. omega arith) (λ e. omega arith) (λ e. omega arith) (csrs.csrWriteOf (m .controller) a v);
         takes = λ f g. taken-pushes (λ z. let o = eqb-true (m .mask) 1 f in omega arith) g;
         opens = λ f. held-mark seen (m .stack) (m .depth) (marked (uppermost m)) blank (ltb-true 0 (m .depth) f) deep refl;
-        chains = λ f e.
-            let w = chained-swaps (ltb-true 0 (m .depth) f) e in rw (ne-eqb (calls.captureOf (m .controller) .meihap) 0 (w .0)) (w .1);
+        chains = λ f e. let w = chained-swaps (ltb-true 0 (m .depth) f) e in rw (ne-eqb (lookAt m .meihap) 0 (w .0)) (w .1);
         passes = refl;
         returns = λ f.
-            record { old = seen (uppermost m); was = held-pop seen (m .stack) (m .depth) blank (ltb-true 0 (m .depth) f) deep; restored = refl };
-        masks = λ k n5 n7 n8 f g. other-does k (accepted (withMask m v) 0) n5 n7 n8 refl;
+            record {
+              old = seen (uppermost m);
+              was = held-pop seen (m .stack) (m .depth) blank (ltb-true 0 (m .depth) f) deep;
+              restored = ap (λ (z : Rank). z .0) (current-is (m .controller) (uppermost m .saved));
+            };
+        masks = λ f g. other-does 9 (accepted (withMask m v) 0) (λ e. omega arith) (λ e. omega arith) (λ e. omega arith) refl;
       })
-      head
 
 -- The laws of nested handlers hold of the machine.
 pub eh1-laws : Laws eh1

@@ -11,14 +11,18 @@ use lib.Dec.{ltb}
 use Rattle.buffers.specs.Filled.{filled}
 use borrow.Author.Tests.{ltb-true, ltb-false, le-ltb}
 use Rattle.nesting.specs.Claim as claim
+use Rattle.nesting.specs.Trace as trace
+use Rattle.nesting.proofs.TraceLaws.{scans-are-words}
+use Rattle.nesting.proofs.Held.{held-length}
 use Rattle.handlers.specs.declared.Machine.{Machine}
 use Rattle.handlers.specs.declared.Outcome.{Outcome}
 use Rattle.handlers.specs.Machines.{powerOnOf}
-use Rattle.handlers.specs.Service.{stepOf}
+use Rattle.handlers.specs.Calls.{stepOf}
 use Rattle.claims.specs.declared.Played.{Played}
-use Rattle.claims.specs.Play.{least, endOf, eachOf, answersOf, refusalsOf, countOf, playedOf}
-use Rattle.claims.specs.Nested.{word, eh1, eventsOf, Claimed}
-use Rattle.handlers_laws.proofs.Kept.{Ready, step-ready}
+use Rattle.claims.specs.Play.{least, endOf, eachOf, answersOf, refusalsOf, eventsPlayed, playedOf}
+use Rattle.claims.specs.Nested.{word, Event, Answer, answerOf, seen, eh1, eventsOf, eachIn, Claimed}
+use Rattle.handlers_laws.proofs.Facts.{facts}
+use Rattle.handlers_laws.proofs.Kept.{Ready, step-ready, power-on-ready}
 use Rattle.claims.proofs.Laws.{demand-3}
 
 -- The lesser of two is at most each of them.
@@ -37,7 +41,7 @@ pub record Fits (k a b c d : ℕ) : Type 0 where
   pub answers : k ≤ c
   pub refusals : k ≤ d
 
-pub count-fits : (a b c d : ℕ) → Fits (countOf a b c d) a b c d
+pub count-fits : (a b c d : ℕ) → Fits (eventsPlayed a b c d) a b c d
 count-fits a b c d =
     let p = least-both a b in
     let q = least-both c d in
@@ -90,20 +94,24 @@ module _ (m₀ : Machine) (hs vs : List ℕ) (i : ℕ) (a : i < length hs) (b : 
       (ap (λ (j : ℕ). set (filled (eachOf out m₀ (take i hs) (take i vs)) old) j (out o)) (sym e)
       ∙ filled-more (eachOf out m₀ (take i hs) (take i vs)) old (out o) (omega arith))
 
--- The list's last machine, for heads and values of 32 bits.
+-- Numbers of 32 bits: as heads and values, each stands for itself.
 abbrev Words : List ℕ → Type 0
 Words l = (i : ℕ) → getD l i 0 < 2 ^ 32
 
+step-words : (m : Machine) (h v : ℕ) → h < 2 ^ 32 → v < 2 ^ 32 → stepOf m h v ≡ stepOf m (word h) (word v)
+step-words m h v a b =
+    let p : h ≡ word h = omega arith in
+    let q : v ≡ word v = omega arith in
+    ap (λ (x : ℕ). stepOf m x v) p ∙ ap (λ (x : ℕ). stepOf m (word h) x) q
+
+-- The list's last machine.
 pub end-is : (m : Machine) (hs vs : List ℕ) → Words hs → Words vs → endOf m hs vs ≡ claim.end eh1 m (eventsOf hs vs)
 unfolding endOf
 end-is m [] vs a b = refl
 end-is m (h ∷ hs) [] a b = refl
 end-is m (h ∷ hs) (v ∷ vs) a b =
-    let p : word h ≡ h = omega (arith, a 0) in
-    let q : word v ≡ v = omega (arith, b 0) in
-    let s : stepOf m h v .machine ≡ stepOf m (word h) (word v) .machine =
-    ap (λ (x : ℕ). stepOf m x v .machine) (sym p) ∙ ap (λ (x : ℕ). stepOf m (word h) x .machine) (sym q) in
-    end-is (stepOf m h v .machine) hs vs (λ i. a (suc i)) (λ i. b (suc i)) ∙ ap (λ (n : Machine). claim.end eh1 n (eventsOf hs vs)) s
+    end-is (stepOf m h v .machine) hs vs (λ i. a (suc i)) (λ i. b (suc i))
+    ∙ ap (λ (o : Outcome). claim.end eh1 (o .machine) (eventsOf hs vs)) (step-words m h v (a 0) (b 0))
 
 take-words : (k : ℕ) (l : List ℕ) → Words l → Words (take k l)
 take-words zero l a i = omega arith
@@ -111,27 +119,63 @@ take-words (suc k) [] a i = omega arith
 take-words (suc k) (x ∷ l) a zero = a 0
 take-words (suc k) (x ∷ l) a (suc i) = take-words k l (λ j. a (suc j)) i
 
+-- What is read off the outcomes is what is read off the answers of the trace.
+step-in : (c : claim.Class) (x : claim.Step eh1) → trace.stepIn (claim.classed eh1 c x) ≡ x
+step-in claim.isTaking x = refl
+step-in claim.isChaining x = refl
+step-in claim.isReturn x = refl
+step-in claim.isOther x = refl
+
+pub each-is : (out : Answer → ℕ) (m : Machine) (hs vs : List ℕ) → Words hs → Words vs
+    → eachOf (λ (o : Outcome). out (answerOf o)) m hs vs ≡ eachIn out (claim.trace eh1 m (eventsOf hs vs))
+unfolding eachOf
+each-is out m [] vs a b = refl
+each-is out m (h ∷ hs) [] a b = refl
+each-is out m (h ∷ hs) (v ∷ vs) a b =
+    let e : Event = record { head = h; value = v } in
+    let rest : Machine → List ℕ = λ (k : Machine). eachIn out (claim.trace eh1 k (eventsOf hs vs)) in
+    ap (λ (l : List ℕ). out (answerOf (stepOf m h v)) ∷ l) (each-is out (stepOf m h v .machine) hs vs (λ i. a (suc i)) (λ i. b (suc i)))
+    ∙ ap (λ (z : Outcome). out (answerOf z) ∷ rest (z .machine)) (step-words m h v (a 0) (b 0))
+    ∙ ap (λ (x : claim.Step eh1). out (x .answered) ∷ rest (stepOf m (word h) (word v) .machine)) (sym (step-in (eh1 .class e (eh1 .answer m e)) (claim.stepFrom eh1 m e)))
+
+-- The machine after any list of 32-bit values is sound where the one before it is.
+pub end-ready : (m : Machine) → Ready m → (hs vs : List ℕ) → Words vs → Ready (endOf m hs vs)
+unfolding endOf
+end-ready m r [] vs w = r
+end-ready m r (h ∷ hs) [] w = r
+end-ready m r (h ∷ hs) (v ∷ vs) w = end-ready (stepOf m h v .machine) (step-ready m r h v (w 0)) hs vs (λ i. w (suc i))
+
+-- As many handlers are open as the depth says.
+open-is-depth : (m : Machine) → Ready m → m .depth ≡ length (eh1 .stack m)
+open-is-depth m r = sym (held-length seen (m .stack) (m .depth) (omega (arith, r .places, facts m (r .isSound) .few)))
+
 -- Demand 3 for the list that was played.
 pub claimed : (n k : ℕ) (hs vs : List ℕ) → Words hs → Words vs → {m : Machine} → m ≡ endOf (powerOnOf n .machine) (take k hs) (take k vs)
     → Claimed n (take k hs) (take k vs) m
-claimed n k hs vs a b e =
+claimed n k hs vs a b {m} e =
+    let a′ = take-words k hs a in
+    let b′ = take-words k vs b in
     record {
-      ends = e ∙ end-is (powerOnOf n .machine) (take k hs) (take k vs) (take-words k hs a) (take-words k vs b);
       nested = demand-3 n (eventsOf (take k hs) (take k vs));
+      ends = e ∙ end-is (powerOnOf n .machine) (take k hs) (take k vs) a′ b′;
+      answers = each-is (λ (z : Answer). z .answer) (powerOnOf n .machine) (take k hs) (take k vs) a′ b′;
+      refusals = each-is (λ (z : Answer). z .refusal) (powerOnOf n .machine) (take k hs) (take k vs) a′ b′;
+      words = scans-are-words _;
+      open-handlers = open-is-depth m (rw e (end-ready (powerOnOf n .machine) (power-on-ready n) (take k hs) (take k vs) b′));
     }
 
 -- What `play` hands back, once its loop has ended.
-module _ (n : ℕ) (hs vs : List ℕ) {on : Outcome} {m : Machine} {k i : ℕ} (ho : on ≡ powerOnOf n) (hi : i ≡ k)
-    (hm : m ≡ endOf (on .machine) (take i hs) (take i vs)) where
+module _ (n : ℕ) (hs vs : List ℕ) {m : Machine} {k i : ℕ} (hi : i ≡ k) (hm : m ≡ endOf (powerOnOf n .machine) (take i hs) (take i vs)) where
   pub machine-end : m ≡ endOf (powerOnOf n .machine) (take k hs) (take k vs)
-  machine-end = hm ∙ rw (ho, hi)
+  machine-end = hm ∙ rw hi
 
-  pub played-end : {count : ℕ} → k ≡ count → _≡_ {A = Played} (record { machine = m; events = k; refusal = on .refusal }) (playedOf n count hs vs)
-  played-end hk = rw (machine-end, ho, ← hk)
+  pub played-end : {count q : ℕ} → k ≡ count → q ≡ powerOnOf n .refusal
+      → _≡_ {A = Played} (record { machine = m; events = k; refusal = q }) (playedOf n count hs vs)
+  played-end hk hq = rw (machine-end, hq, ← hk)
 
-  pub stored-end : (out : Outcome → ℕ) (old : List ℕ) {l : List ℕ} → l ≡ filled (eachOf out (on .machine) (take i hs) (take i vs)) old
+  pub stored-end : (out : Outcome → ℕ) (old : List ℕ) {l : List ℕ} → l ≡ filled (eachOf out (powerOnOf n .machine) (take i hs) (take i vs)) old
       → l ≡ filled (eachOf out (powerOnOf n .machine) (take k hs) (take k vs)) old
-  stored-end out old hl = hl ∙ rw (ho, hi)
+  stored-end out old hl = hl ∙ rw hi
 
 -- The lesser is the first where that is at most the second; what is at most both is at most the lesser.
 least-first : (a b : ℕ) → a ≤ b → least a b ≡ a
@@ -147,7 +191,7 @@ least-above k a b h g = go (ltb b a)
     go false = h
 
 -- Values as many as heads, and arrays that hold them: all events are played.
-pub count-all : (a b c d : ℕ) → b ≡ a → a ≤ c → a ≤ d → countOf a b c d ≡ a
+pub count-all : (a b c d : ℕ) → b ≡ a → a ≤ c → a ≤ d → eventsPlayed a b c d ≡ a
 count-all a b c d e h g =
     let ab : a ≤ b = omega (arith, e) in
     rw (least-first a b ab) (least-first a (least c d) (least-above a c d h g))
@@ -162,12 +206,12 @@ pub record PlayedAll (n : ℕ) (hs vs answers₀ refusals₀ : List ℕ) (p : Pl
 
 pub played-all : (n : ℕ) (hs vs answers₀ refusals₀ : List ℕ) {p : Played} {answers refusals : List ℕ}
     → length vs ≡ length hs → length hs ≤ length answers₀ → length hs ≤ length refusals₀
-    → p ≡ playedOf n (countOf (length hs) (length vs) (length answers₀) (length refusals₀)) hs vs
+    → p ≡ playedOf n (eventsPlayed (length hs) (length vs) (length answers₀) (length refusals₀)) hs vs
     → answers ≡ filled (answersOf (powerOnOf n .machine) (take (p .events) hs) (take (p .events) vs)) answers₀
     → refusals ≡ filled (refusalsOf (powerOnOf n .machine) (take (p .events) hs) (take (p .events) vs)) refusals₀
     → PlayedAll n hs vs answers₀ refusals₀ p answers refusals
 played-all n hs vs answers₀ refusals₀ {p} {answers} {refusals} same ha hr ep ea er =
-    let count : countOf (length hs) (length vs) (length answers₀) (length refusals₀) ≡ length hs = count-all (length hs) (length vs) (length answers₀) (length refusals₀) same ha hr in
+    let count : eventsPlayed (length hs) (length vs) (length answers₀) (length refusals₀) ≡ length hs = count-all (length hs) (length vs) (length answers₀) (length refusals₀) same ha hr in
     let hs-all : take (length hs) hs ≡ hs = take-all (length hs) hs (omega arith) in
     let vs-all : take (length hs) vs ≡ vs = take-all (length hs) vs (omega (arith, same)) in
     let events : p .events ≡ length hs = ap (λ (q : Played). q .events) ep ∙ count in
@@ -180,10 +224,3 @@ played-all n hs vs answers₀ refusals₀ {p} {answers} {refusals} same ha hr ep
       as-many-answers = long (λ (o : Outcome). o .answer);
       as-many-refusals = long (λ (o : Outcome). o .refusal);
     }
-
--- The machine after any list of 32-bit values is sound where the one before it is.
-pub end-ready : (m : Machine) → Ready m → (hs vs : List ℕ) → Words vs → Ready (endOf m hs vs)
-unfolding endOf
-end-ready m r [] vs w = r
-end-ready m r (h ∷ hs) [] w = r
-end-ready m r (h ∷ hs) (v ∷ vs) w = end-ready (stepOf m h v .machine) (step-ready m r h v (w 0)) hs vs (λ i. w (suc i))

@@ -3,20 +3,23 @@ use Prim.Native.Nat.{ℕ, _+_, _*_, _%_, _^_, _≤_, _<_}
 use mathlib.Core.Path.{_≡_}
 use mathlib.Core.Bool.{true, cond}
 use mathlib.Core.Logic.{_⊎_}
-use mathlib.Core.List.{List, [], _∷_}
+use mathlib.Core.List.{List, [], _∷_, map}
 use lib.ListN.{length}
 use lib.Dec.{eqb}
 use Rattle.event.specs.Event.{kindOf}
 use Rattle.pic.specs.declared.Controller.{Controller}
-use Rattle.pic.specs.Sources.{rankAt, enableAt, pendingAt}
+use Rattle.pic.specs.Sources.{rankAt, enableAt, pendingAt, thresholdOf}
+use Rattle.pic.specs.Calls.{sourceCount, currentRank}
 use Rattle.nesting.specs.Claim.{Class, isTaking, isChaining, isReturn, isOther}
 use Rattle.nesting.specs.Claim as claim
+use Rattle.nesting.specs.Trace as trace
 use Rattle.nesting.specs.Held.{held}
 use Rattle.handlers_stack.specs.declared.Handler.{Handler}
 use Rattle.handlers.specs.declared.Machine.{Machine}
 use Rattle.handlers.specs.declared.Outcome.{Outcome}
 use Rattle.handlers.specs.Machines.{soundOf, powerOnOf}
-use Rattle.handlers.specs.Service.{stepOf}
+use Rattle.handlers.specs.Calls.{stepOf}
+use Rattle.claims.specs.Play.{answersOf, refusalsOf}
 
 -- An event is a head and a value, 32 bits each: a number with more bits stands for its lowest 32.
 pub record Event : Type 0 where
@@ -49,11 +52,11 @@ seen h = record { source = h .source; rank = h .rank .0; saved = h .saved .0 }
 -- rank and a higher number.
 pub record Won (c : Controller) (s : ℕ) : Type 0 where
   pub least : 1 ≤ s
-  pub most : s ≤ c .sources
+  pub most : s ≤ sourceCount c
   pub enabled : enableAt c s ≡ 1
   pub pending : pendingAt c s ≡ true
-  pub above : c .threshold .0 < rankAt c s .0
-  pub best : (t : ℕ) → 1 ≤ t → t ≤ c .sources → enableAt c t ≡ 1 → pendingAt c t ≡ true → (t ≡ s → ⊥)
+  pub above : thresholdOf (c .scalars) .0 < rankAt c s .0
+  pub best : (t : ℕ) → 1 ≤ t → t ≤ sourceCount c → enableAt c t ≡ 1 → pendingAt c t ≡ true → (t ≡ s → ⊥)
       → (rankAt c t .0 < rankAt c s .0) ⊎ ((rankAt c t .0 ≡ rankAt c s .0) × (s < t))
 
 -- The machine, for the theory of nested handlers: the source that an answer names is S for base + 4 × S, base as it was just before; its rank is the rank
@@ -71,9 +74,9 @@ eh1 =
       answer = λ m e. answerOf (stepOf m (word (e .head)) (word (e .value)));
       class = λ e a. classBy (kindOf (word (e .head))) a;
       stack = λ m. held seen (m .stack) (m .depth);
-      current = λ m. m .controller .current .0;
+      current = λ m. currentRank (m .controller) .0;
       Sound = λ m. (soundOf m ≡ true) × (length (m .stack) ≡ 15);
-      Names = λ m a s. a .answer ≡ m .controller .base + 4 * s;
+      Names = λ m a s. a .answer ≡ m .controller .scalars .base + 4 * s;
       rankOf = λ m s. rankAt (m .controller) s .0;
       Won = λ m s. Won (m .controller) s;
       Below = λ a b. a < b;
@@ -91,7 +94,30 @@ eventsOf [] values = []
 eventsOf (head ∷ heads) [] = []
 eventsOf (head ∷ heads) (value ∷ values) = record { head = head; value = value } ∷ eventsOf heads values
 
--- The claim about a list that was played from power-on with N to a machine: that machine is the last of the list, and demand 3 holds of the list.
+-- The list as it was played from power-on with N: an entry for each event, with its class and its answer.
+abbrev pub traceOf : ℕ → List Event → List (trace.Entry (claim.Step eh1))
+traceOf n es = claim.trace eh1 (powerOnOf n .machine) es
+
+-- What is read off the answer of each entry of a trace, in their order: what it answered, and what it was refused with.
+abbrev pub eachIn : (Answer → ℕ) → List (trace.Entry (claim.Step eh1)) → List ℕ
+eachIn out l = map (λ (e : trace.Entry (claim.Step eh1)). out (trace.stepIn e .answered)) l
+
+abbrev pub answersIn : List (trace.Entry (claim.Step eh1)) → List ℕ
+answersIn = eachIn (λ (a : Answer). a .answer)
+
+abbrev pub refusalsIn : List (trace.Entry (claim.Step eh1)) → List ℕ
+refusalsIn = eachIn (λ (a : Answer). a .refusal)
+
+-- The claim about a list that was played from power-on with N to a machine.
 pub record Claimed (n : ℕ) (heads values : List ℕ) (m : Machine) : Type 0 where
-  pub ends : m ≡ claim.end eh1 (powerOnOf n .machine) (eventsOf heads values)
+  -- "Demand 3 is a single claim about the whole list."
   pub nested : claim.Nested eh1 (powerOnOf n .machine) (eventsOf heads values)
+  -- "The first event gets the machine that power-on handed back, each later one the machine that the event before it handed back": the machine is the
+  -- last of these, and the answers and refusals are those that the claim speaks of.
+  pub ends : m ≡ claim.end eh1 (powerOnOf n .machine) (eventsOf heads values)
+  pub answers : answersOf (powerOnOf n .machine) heads values ≡ answersIn (traceOf n (eventsOf heads values))
+  pub refusals : refusalsOf (powerOnOf n .machine) heads values ≡ refusalsIn (traceOf n (eventsOf heads values))
+  -- "Its words": own returns, open handlers and chainings as the claim finds them in the list are what the sentences say.
+  pub words : trace.ScansAreWords (traceOf n (eventsOf heads values))
+  -- "Open, as a number, is how many handlers are on the stack": the depth, which the last line prints.
+  pub open-handlers : m .depth ≡ length (eh1 .stack m)

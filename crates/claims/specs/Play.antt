@@ -8,7 +8,7 @@ use lib.ListN.{take}
 use Rattle.handlers.specs.declared.Machine.{Machine}
 use Rattle.handlers.specs.declared.Outcome.{Outcome}
 use Rattle.handlers.specs.Machines.{powerOnOf}
-use Rattle.handlers.specs.Service.{stepOf}
+use Rattle.handlers.specs.Calls.{stepOf}
 use Rattle.claims.specs.declared.Played.{Played}
 
 -- The lesser of two numbers.
@@ -35,8 +35,8 @@ abbrev pub refusalsOf : Machine → List ℕ → List ℕ → List ℕ
 refusalsOf = eachOf (λ (o : Outcome). o .refusal)
 
 -- As many events are played as heads, values, answers and refusals all have places.
-abbrev pub countOf : ℕ → ℕ → ℕ → ℕ → ℕ
-countOf heads values answers refusals = least (least heads values) (least answers refusals)
+abbrev pub eventsPlayed : ℕ → ℕ → ℕ → ℕ → ℕ
+eventsPlayed heads values answers refusals = least (least heads values) (least answers refusals)
 
 -- Power-on with N, and then k events: the end machine, k, and power-on's refusal.
 abbrev pub playedOf : ℕ → ℕ → List ℕ → List ℕ → Played

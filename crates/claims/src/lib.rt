@@ -4,11 +4,10 @@ ghost use mathlib.Core.Path.{_≡_};
 ghost use lib.ListN.{length, take};
 ghost use Rattle.buffers.specs.Filled.{filled};
 ghost use Rattle.handlers.specs.Machines.{powerOnOf};
-ghost use Rattle.claims.specs.Play.{least, countOf, playedOf, answersOf, refusalsOf};
+ghost use Rattle.claims.specs.Play.{least, eventsPlayed, playedOf, answersOf, refusalsOf};
 ghost use Rattle.claims.specs.Nested.{Claimed};
+use handlers::Checked;
 use handlers::Machine;
-use steps::power_on;
-use steps::step;
 
 // The end machine, how many events were played, and power-on's refusal.
 pub struct Played {
@@ -32,27 +31,27 @@ pub fn play(
     answers: &mut [u32],
     refusals: &mut [u8],
 ) -> Played
-    ensures { λ r. ⌜ r ≡ playedOf n (countOf (length (now (heads .entry))) (length (now (values .entry))) (length (now (answers .entry))) (length (now (refusals .entry)))) (now (heads .entry)) (now (values .entry)) ⌝ }
+    ensures { λ r. ⌜ r ≡ playedOf n (eventsPlayed (length (now (heads .entry))) (length (now (values .entry))) (length (now (answers .entry))) (length (now (refusals .entry)))) (now (heads .entry)) (now (values .entry)) ⌝ }
     ensures { λ r. ⌜ now (answers .exit) ≡ filled (answersOf (powerOnOf n .machine) (take (r .events) (now (heads .entry))) (take (r .events) (now (values .entry)))) (now (answers .entry)) ⌝ }
     ensures { λ r. ⌜ now (refusals .exit) ≡ filled (refusalsOf (powerOnOf n .machine) (take (r .events) (now (heads .entry))) (take (r .events) (now (values .entry)))) (now (refusals .entry)) ⌝ }
     ensures { λ r. ⌜ Claimed n (take (r .events) (now (heads .entry))) (take (r .events) (now (values .entry))) (r .machine) ⌝ }
 {
-    let on = power_on(n);
-    let mut m = on.machine;
+    let on = Checked::start(n);
+    let mut m = on.checked;
     let k = lesser(
         lesser(heads.len(), values.len()),
         lesser(answers.len(), refusals.len()),
     );
     let mut i: usize = 0;
     while i < k {
-        let out = step(m, heads[i], values[i]);
+        let out = m.step(heads[i], values[i]);
         answers[i] = out.answer;
         refusals[i] = out.refusal;
-        m = out.machine;
+        m = out.checked;
         i += 1;
     }
     Played {
-        machine: m,
+        machine: m.leave(),
         events: k,
         refusal: on.refusal,
     }

@@ -1,5 +1,5 @@
 pub mod Stores
-pub mod Spelling
+pub mod Digits
 pub mod Meaning
 pub mod Pieces
 pub mod Signs

@@ -1,14 +1,14 @@
--- The digits of a number say that number, and there are as few as can be.
+-- The digits of a number make that number, and there are as few as can be.
 use Prim.Native.Nat.{ℕ, zero, suc, _+_, _*_, _-_, _/_, _%_, _^_, _≤_, _<_}
 use native.Mathlib.Omega.{arith}
 use native.Mathlib.Nat.{pow-suc, pow-zero, one-mul, div-lt-iff-lt-mul, div-add-mod', mod-lt}
-use borrow.Author.Tests.{ltb-true, ltb-false, leb-false, lt-ltb, le-ltb}
+use borrow.Author.Tests.{ltb-true, ltb-false, leb-false, le-leb, lt-leb}
 use mathlib.Core.Path.{_≡_, refl, subst, _∙_, ap}
 use mathlib.Core.Bool.{Bool, true, false, _&&_, cond}
 use mathlib.Core.List.{List, [], _∷_, _++_}
 use lib.ListN.{length, length-append}
 use lib.Dec.{ltb, leb}
-use Rattle.digits.specs.Digits.{glyph, digitsTo, digitOf, valueAfter, valueOf}
+use Rattle.digits.specs.Digits.{glyph, digitsTo, digitOf, numberAfter, numberOf}
 
 -- The quotient of a number of suc k digits has k.
 quotient : (base k n : ℕ) → 1 < base → n < base ^ suc k → n / base < base ^ k
@@ -49,30 +49,36 @@ digits-length base least (suc most) n k b h l =
     by-case false y ex ey again =
         rw (length-append before (glyph (n % base) ∷ [])) (longer base least n k (length before) b h l (λ m. absurd (not-both n base m (ltb-false n base ex))) again)
 
--- What signs say, with one more behind them.
-value-snoc : (base said sign : ℕ) (signs : List ℕ) → valueAfter base said (signs ++ sign ∷ []) ≡ valueAfter base said signs * base + digitOf sign
-unfolding valueAfter
-value-snoc base said sign [] = refl
-value-snoc base said sign (s ∷ signs) = value-snoc base (said * base + digitOf s) sign signs
+-- The number of digits with one more behind them.
+number-snoc : (base n byte : ℕ) (text : List ℕ) → numberAfter base n (text ++ byte ∷ []) ≡ numberAfter base n text * base + digitOf byte
+unfolding numberAfter
+number-snoc base n byte [] = refl
+number-snoc base n byte (b ∷ text) = number-snoc base (n * base + digitOf b) byte text
 
--- The sign of a digit says that digit.
+-- The sign of a digit stands for that digit.
+low-sign : (d : ℕ) → d < 10 → digitOf (48 + d) ≡ d
+unfolding digitOf
+low-sign d h = rw (le-leb 48 (48 + d) (omega arith), le-leb (48 + d) 57 (omega arith)) (omega arith)
+
+high-sign : (d : ℕ) → 10 ≤ d → d < 16 → digitOf (87 + d) ≡ d
+unfolding digitOf
+high-sign d l h =
+    rw (le-leb 48 (87 + d) (omega arith), lt-leb (87 + d) 57 (omega arith), le-leb 97 (87 + d) (omega arith), le-leb (87 + d) 102 (omega arith))
+    (omega arith)
+
 pub digit-of-glyph : (d : ℕ) → d < 16 → digitOf (glyph d) ≡ d
 digit-of-glyph d h = by-case (ltb d 10) refl
   where
     by-case : (x : Bool) → ltb d 10 ≡ x → digitOf (glyph d) ≡ d
-    by-case true e =
-        let l : d < 10 = ltb-true d 10 e in
-        rw (e, lt-ltb (48 + d) 58 (omega arith)) (omega arith)
-    by-case false e =
-        let l : 10 ≤ d = ltb-false d 10 e in
-        rw (e, le-ltb (87 + d) 58 (omega arith)) (omega arith)
+    by-case true e = rw e (low-sign d (ltb-true d 10 e))
+    by-case false e = rw e (high-sign d (ltb-false d 10 e) h)
 
--- The digits of a number say it, where at most so many hold it.
-pub digits-value : (base least most n : ℕ) → 1 < base → base ≤ 16 → n < base ^ most → valueOf base (digitsTo base least most n) ≡ n
-unfolding digitsTo valueAfter
-digits-value base least zero n b s h = let z : n < 1 = subst (λ (m : ℕ). n < m) (pow-zero base) h in omega arith
-digits-value base least (suc most) n b s h =
-    by-case (ltb n base) (leb least 1) refl (digits-value base (least - 1) most (n / base) b s (quotient base most n b h))
+-- The digits of a number make it, where at most so many hold it.
+pub digits-number : (base least most n : ℕ) → 1 < base → base ≤ 16 → n < base ^ most → numberOf base (digitsTo base least most n) ≡ n
+unfolding digitsTo numberAfter
+digits-number base least zero n b s h = let z : n < 1 = subst (λ (m : ℕ). n < m) (pow-zero base) h in omega arith
+digits-number base least (suc most) n b s h =
+    by-case (ltb n base) (leb least 1) refl (digits-number base (least - 1) most (n / base) b s (quotient base most n b h))
   where
     before : List ℕ
     before = digitsTo base (least - 1) most (n / base)
@@ -80,11 +86,11 @@ digits-value base least (suc most) n b s h =
     last : n % base < 16
     last = let l : n % base < base = mod-lt n (omega arith) in omega arith
 
-    ends : valueAfter base 0 before ≡ n / base → valueAfter base 0 (before ++ glyph (n % base) ∷ []) ≡ n
-    ends e = rw (value-snoc base 0 (glyph (n % base)) before, e, digit-of-glyph (n % base) last) (div-add-mod' n base)
+    ends : numberAfter base 0 before ≡ n / base → numberAfter base 0 (before ++ glyph (n % base) ∷ []) ≡ n
+    ends e = rw (number-snoc base 0 (glyph (n % base)) before, e, digit-of-glyph (n % base) last) (div-add-mod' n base)
 
-    by-case : (x y : Bool) → ltb n base ≡ x → valueAfter base 0 before ≡ n / base
-        → valueAfter base 0 (cond (x && y) (glyph n ∷ []) (before ++ glyph (n % base) ∷ [])) ≡ n
+    by-case : (x y : Bool) → ltb n base ≡ x → numberAfter base 0 before ≡ n / base
+        → numberAfter base 0 (cond (x && y) (glyph n ∷ []) (before ++ glyph (n % base) ∷ [])) ≡ n
     by-case true true ex e =
         let l : n < base = ltb-true n base ex in
         let l′ : n < 16 = omega arith in

@@ -1,6 +1,6 @@
--- Numbers as text, in ASCII.
+-- Numbers as text, in ASCII: the digits of a number, and the number that digits make.
 use Prim.Native.Nat.{ℕ, zero, suc, _+_, _*_, _-_, _/_, _%_}
-use mathlib.Core.Bool.{cond, _&&_}
+use mathlib.Core.Bool.{Bool, cond, _&&_}
 use mathlib.Core.List.{List, [], _∷_, _++_}
 use lib.Dec.{ltb, leb}
 
@@ -22,14 +22,23 @@ decimal = digitsTo 10 1 20
 abbrev pub hexadecimal : ℕ → ℕ → List ℕ
 hexadecimal least = digitsTo 16 least 8
 
--- The digit of a sign.
-abbrev pub digitOf : ℕ → ℕ
-digitOf sign = cond (ltb sign 58) (sign - 48) (sign - 87)
+-- A byte from low to high.
+abbrev pub within : ℕ → ℕ → ℕ → Bool
+within low high byte = leb low byte && leb byte high
 
--- What signs say in a base, after what those before them said.
-unfoldable pub valueAfter : ℕ → ℕ → List ℕ → ℕ
-valueAfter base said [] = said
-valueAfter base said (sign ∷ signs) = valueAfter base (said * base + digitOf sign) signs
+-- The digit that a byte stands for: 0 to 9, a to f or A to F. For any other byte 16, which is a digit in no base.
+unfoldable pub digitOf : ℕ → ℕ
+digitOf byte =
+    cond (within 48 57 byte) (byte - 48)
+    (cond (within 97 102 byte) (byte - 87)
+    (cond (within 65 70 byte) (byte - 55)
+    16))
 
-abbrev pub valueOf : ℕ → List ℕ → ℕ
-valueOf base = valueAfter base 0
+-- The number that digits make after those that make n.
+unfoldable pub numberAfter : ℕ → ℕ → List ℕ → ℕ
+numberAfter base n [] = n
+numberAfter base n (byte ∷ text) = numberAfter base (n * base + digitOf byte) text
+
+-- The number that digits make.
+abbrev pub numberOf : ℕ → List ℕ → ℕ
+numberOf base = numberAfter base 0

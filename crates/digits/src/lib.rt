@@ -28,7 +28,7 @@ fn one_less(n: usize) -> usize
 }
 
 // Stores the digits of n at the start of out, and answers how many there are.
-fn spell(out: &mut [u8], base: u64, least: usize, most: usize, n: u64) -> usize
+fn put_digits(out: &mut [u8], base: u64, least: usize, most: usize, n: u64) -> usize
     requires { ⌜ (1 < base) × (base ≤ 16) × (most ≤ length (now out)) ⌝ }
     ensures { λ r. ⌜ r ≡ length (digitsTo base least most n) ⌝ }
     ensures { λ _. ⌜ now (out .exit) ≡ sets (now (out .entry)) 0 (digitsTo base least most n) ⌝ }
@@ -40,7 +40,7 @@ fn spell(out: &mut [u8], base: u64, least: usize, most: usize, n: u64) -> usize
         out[0] = glyph(n);
         return 1;
     }
-    let k = spell(out, base, one_less(least), most - 1, n / base);
+    let k = put_digits(out, base, one_less(least), most - 1, n / base);
     out[k] = glyph(n % base);
     k + 1
 }
@@ -79,7 +79,7 @@ fn put_number(buffer: &mut [u8], at: usize, base: u64, least: usize, most: usize
     ensures { λ _. ⌜ now (buffer .exit) ≡ putAt (now (buffer .entry)) at (digitsTo base least most n) ⌝ }
 {
     let mut text: [u8; 20] = [0; 20];
-    let k = spell(&mut text, base, least, most, n);
+    let k = put_digits(&mut text, base, least, most, n);
     put_text(buffer, at, &text[..k])
 }
 

@@ -4,6 +4,7 @@ use mathlib.Core.Bool.{Bool, true, false, cond, _&&_, _||_}
 use mathlib.Core.List.{List, [], _∷_}
 use lib.ListN.{length, getD}
 use lib.Dec.{ltb, eqb}
+use Rattle.event.specs.declared.Uses.{Uses}
 
 -- Kind = head / 65,536.
 abbrev pub kindOf : ℕ → ℕ
@@ -13,58 +14,23 @@ kindOf head = head / 65536
 abbrev pub addressOf : ℕ → ℕ
 addressOf head = head % 65536
 
--- Which parts of an event a kind uses.
-pub record Parts : Type 0 where
-  pub address : Bool
-  pub value : Bool
+-- Whether a kind uses the address, and whether it uses the value.
+abbrev uses : Bool → Bool → Uses
+uses address value = record { 0 = address; 1 = value }
 
-abbrev uses : Bool → Bool → Parts
-uses a v = record { address = a; value = v }
-
--- Kinds 5 to 9 don't use the address; kinds 1, 3, 5, 6, 7, 8 don't use the value.
-abbrev pub sampleUses : Parts
-sampleUses = uses true true
-
-abbrev pub loadUses : Parts
-loadUses = uses true false
-
-abbrev pub storeUses : Parts
-storeUses = uses true true
-
-abbrev pub csrReadUses : Parts
-csrReadUses = uses true false
-
-abbrev pub csrWriteUses : Parts
-csrWriteUses = uses true true
-
-abbrev pub takeUses : Parts
-takeUses = uses false false
-
-abbrev pub openUses : Parts
-openUses = uses false false
-
-abbrev pub chainUses : Parts
-chainUses = uses false false
-
-abbrev pub returnUses : Parts
-returnUses = uses false false
-
-abbrev pub setMaskUses : Parts
-setMaskUses = uses false true
-
--- Kinds: 0 sample, 1 load, 2 store, 3 CSR read, 4 CSR write, 5 take, 6 open, 7 chain, 8 return, 9 set mask to the value. One row for each.
-abbrev pub kinds : List Parts
+-- One row for each kind. Kinds 5 to 9 don't use the address; kinds 1, 3, 5, 6, 7, 8 don't use the value.
+abbrev pub kinds : List Uses
 kinds =
-    sampleUses
-    ∷ loadUses
-    ∷ storeUses
-    ∷ csrReadUses
-    ∷ csrWriteUses
-    ∷ takeUses
-    ∷ openUses
-    ∷ chainUses
-    ∷ returnUses
-    ∷ setMaskUses
+    uses true true  -- 0 sample
+    ∷ uses true false  -- 1 load
+    ∷ uses true true  -- 2 store
+    ∷ uses true false  -- 3 CSR read
+    ∷ uses true true  -- 4 CSR write
+    ∷ uses false false  -- 5 take
+    ∷ uses false false  -- 6 open
+    ∷ uses false false  -- 7 chain
+    ∷ uses false false  -- 8 return
+    ∷ uses false true  -- 9 set mask to the value
     ∷ []
 
 -- 6. Is the kind 0..9? It has a row.
@@ -72,14 +38,13 @@ abbrev pub isKind : ℕ → Bool
 isKind k = ltb k (length kinds)
 
 -- The row of a kind.
-abbrev pub partsOf : ℕ → Parts
-partsOf k = getD kinds k (uses false false)
+abbrev pub rowOf : ℕ → Uses
+rowOf k = getD kinds k (uses false false)
 
 -- 7. Are unused parts 0?
-abbrev pub unusedAreZero : ℕ → ℕ → Bool
-unusedAreZero head value =
-    (partsOf (kindOf head) .address || eqb (addressOf head) 0) && (partsOf (kindOf head) .value || eqb value 0)
+abbrev pub unusedAreZero : ℕ → ℕ → ℕ → Bool
+unusedAreZero kind address value = (rowOf kind .0 || eqb address 0) && (rowOf kind .1 || eqb value 0)
 
 -- Questions 6 and 7, first no decides; 0 where both are answered yes.
 unfoldable pub shapeOf : ℕ → ℕ → ℕ
-shapeOf head value = cond (isKind (kindOf head)) (cond (unusedAreZero head value) 0 7) 6
+shapeOf head value = cond (isKind (kindOf head)) (cond (unusedAreZero (kindOf head) (addressOf head) value) 0 7) 6

@@ -3,31 +3,21 @@
 ghost use mathlib.Core.Path.{_≡_};
 ghost use Rattle.event.specs.Event.{kindOf, addressOf, shapeOf};
 
-// The kinds that use the address, and those that use the value.
-const USES_ADDRESS: [bool; 10] = [
-    true,
-    true,
-    true,
-    true,
-    true,
-    false,
-    false,
-    false,
-    false,
-    false,
-];
+// Whether a kind uses the address, and whether it uses the value.
+struct Uses(bool, bool);
 
-const USES_VALUE: [bool; 10] = [
-    true,
-    false,
-    true,
-    false,
-    true,
-    false,
-    false,
-    false,
-    false,
-    true,
+// One row for each kind, in the order of their numbers.
+const KINDS: [Uses; 10] = [
+    Uses(true, true), // 0 sample
+    Uses(true, false), // 1 load
+    Uses(true, true), // 2 store
+    Uses(true, false), // 3 CSR read
+    Uses(true, true), // 4 CSR write
+    Uses(false, false), // 5 take
+    Uses(false, false), // 6 open
+    Uses(false, false), // 7 chain
+    Uses(false, false), // 8 return
+    Uses(false, true), // 9 set mask
 ];
 
 // The kind of a head.
@@ -49,10 +39,11 @@ pub fn shape(head: u32, value: u32) -> u8
     ensures { λ r. ⌜ r ≡ shapeOf head value ⌝ }
 {
     let k = (head / 65536) as usize;
-    if 10 <= k {
+    if KINDS.len() <= k {
         return 6;
     }
-    if (USES_ADDRESS[k] | (head % 65536 == 0)) & (USES_VALUE[k] | (value == 0)) {
+    let uses = KINDS[k];
+    if (uses.0 | (head % 65536 == 0)) & (uses.1 | (value == 0)) {
         0
     } else {
         7

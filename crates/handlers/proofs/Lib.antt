@@ -1,3 +1,2 @@
 -- Laws of the handler service.
-pub mod Facts
 pub mod Answers

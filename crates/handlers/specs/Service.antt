@@ -1,22 +1,23 @@
--- Document 01, "Handler service", and the questions 8 and 14 to 21: what each event does and answers.
-use Prim.Native.Nat.{ℕ, _+_, _-_}
+-- Document 01, "Handler service", and the questions 14 to 21: what each event does and answers, once question 8 is answered yes. The rules are total: on a machine that
+-- is not sound they say what the code does, and question 8 keeps that from every caller.
+use Prim.Native.Nat.{ℕ, _+_, _-_, _%_, _^_}
 use mathlib.Core.Bool.{Bool, cond, not, _&&_, _||_}
 use lib.ListN.{set}
 use lib.Dec.{leb, ltb, eqb}
 use lib.IntN.{pos}
 use lib.Signed.{ltZ}
 use Rattle.event.specs.Event.{kindOf, addressOf, shapeOf}
-use Rattle.pic.specs.declared.Margin.{Margin}
+use Rattle.pic.specs.declared.Look.{Look}
+use Rattle.pic.specs.declared.Winner.{Winner}
 use Rattle.pic.specs.declared.Outcome as controller
-use Rattle.pic.specs.Fields.{withCurrent}
-use Rattle.pic.specs.Calls as calls
+use Rattle.pic.specs.Calls.{currentRank, setCurrent, captureOf, lookOf}
 use Rattle.pic_registers.specs.Calls as registers
 use Rattle.pic_csrs.specs.Calls as csrs
 use Rattle.handlers_stack.specs.declared.Handler.{Handler}
 use Rattle.handlers.specs.declared.Machine.{Machine}
 use Rattle.handlers.specs.declared.Outcome.{Outcome}
 use Rattle.handlers.specs.Fields.{withController, withMask, withDepth, withStack}
-use Rattle.handlers.specs.Machines.{uppermost, isOpen, soundOf}
+use Rattle.handlers.specs.Machines.{uppermost, isOpen}
 
 -- An accepted event hands back a machine and its answer, with no refusal.
 abbrev pub accepted : Machine → ℕ → Outcome
@@ -34,145 +35,143 @@ ask m answer q on = cond answer on (refused m q)
 abbrev pub lifted : Machine → controller.Outcome → Outcome
 lifted m o = record { machine = withController m (o .controller); answer = o .answer; refusal = o .refusal }
 
--- Sample, load, store, CSR read: 8, then the controller's own questions.
-unfoldable pub sampleOf : Machine → ℕ → ℕ → Outcome
-sampleOf m x v = ask m (soundOf m) 8 (lifted m (registers.sampleOf (m .controller) x v))
+-- Sample, load, store, CSR read: the controller's own questions.
+unfoldable pub sampleEvent : Machine → ℕ → ℕ → Outcome
+sampleEvent m x v = lifted m (registers.sampleOf (m .controller) x v)
 
-unfoldable pub loadOf : Machine → ℕ → Outcome
-loadOf m offset = ask m (soundOf m) 8 (lifted m (registers.loadOf (m .controller) offset))
+unfoldable pub loadEvent : Machine → ℕ → Outcome
+loadEvent m offset = lifted m (registers.loadOf (m .controller) offset)
 
-unfoldable pub storeOf : Machine → ℕ → ℕ → Outcome
-storeOf m offset v = ask m (soundOf m) 8 (lifted m (registers.storeOf (m .controller) offset v))
+unfoldable pub storeEvent : Machine → ℕ → ℕ → Outcome
+storeEvent m offset v = lifted m (registers.storeOf (m .controller) offset v)
 
-unfoldable pub csrReadOf : Machine → ℕ → Outcome
-csrReadOf m a = ask m (soundOf m) 8 (lifted m (csrs.csrReadOf (m .controller) a))
+unfoldable pub csrReadEvent : Machine → ℕ → Outcome
+csrReadEvent m a = lifted m (csrs.csrReadOf (m .controller) a)
 
 -- 14. Write to 0xBCC: is no handler open?
 abbrev pub mayWrite : Machine → ℕ → Bool
 mayWrite m a = not (eqb a 0xBCC) || eqb (m .depth) 0
 
--- CSR write: 8, 14 and the controller's own. 14 is asked of 0xBCC alone, to which 12 and 13 answer yes, so its place among them is the same.
-unfoldable pub csrWriteOf : Machine → ℕ → ℕ → Outcome
-csrWriteOf m a v = ask m (soundOf m) 8 (ask m (mayWrite m a) 14 (lifted m (csrs.csrWriteOf (m .controller) a v)))
+-- CSR write: 14 and the controller's own. 14 is asked of 0xBCC alone, to which 12 and 13 answer yes, so its place among them is the same.
+unfoldable pub csrWriteEvent : Machine → ℕ → ℕ → Outcome
+csrWriteEvent m a v = ask m (mayWrite m a) 14 (lifted m (csrs.csrWriteOf (m .controller) a v))
 
--- A query gives the margin for any sound machine; it has only 8.
-unfoldable pub marginAnswer : Machine → Margin
-marginAnswer m = cond (soundOf m) (calls.marginAnswer (m .controller)) (record { margin = pos 0; refusal = 8 })
+-- One look at the controller.
+abbrev pub lookAt : Machine → Look
+lookAt m = lookOf (m .controller)
 
--- The handler of a take: the winner, with current as saved, unopened.
+-- The machine with the winner captured.
+abbrev pub capturedBy : Machine → Winner → Machine
+capturedBy m w = withController m (captureOf (m .controller) w)
+
+abbrev pub captured : Machine → Machine
+captured m = capturedBy m (lookAt m .winner)
+
+-- The handler of a winner, with current as saved, unopened.
+abbrev pub handlerOf : Machine → Winner → Handler
+handlerOf m w = record { source = w .source; rank = w .rank; saved = currentRank (m .controller); opened = 0 }
+
 abbrev pub newHandler : Machine → Handler
-newHandler m =
-    record {
-      source = calls.captureOf (m .controller) .winner .source;
-      rank = calls.captureOf (m .controller) .winner .rank;
-      saved = m .controller .current;
-      opened = 0;
-    }
+newHandler m = handlerOf m (lookAt m .winner)
+
+-- One handler more. The number has 8 bits, and with at most 15 handlers it does not wrap.
+abbrev pub oneMore : ℕ → ℕ
+oneMore depth = (depth + 1) % 2 ^ 8
 
 -- Take: capture, push the winner with current as saved, unopened; mask 0. Answer: meihap.
+abbrev pub takenBy : Machine → Winner → Machine
+takenBy m w = withMask (withDepth (withStack (capturedBy m w) (set (m .stack) (m .depth) (handlerOf m w))) (oneMore (m .depth))) 0
+
 abbrev pub taken : Machine → Machine
-taken m =
-    record {
-      controller = calls.captureOf (m .controller) .controller;
-      mask = 0;
-      depth = m .depth + 1;
-      stack = set (m .stack) (m .depth) (newHandler m);
-    }
+taken m = takenBy m (lookAt m .winner)
 
 -- 15. Take: is mask 1? 16. Is the margin above 0?
-unfoldable pub takeOf : Machine → Outcome
-takeOf m =
-    ask m (soundOf m) 8
-    (ask m (eqb (m .mask) 1) 15
-    (ask m (ltZ (pos 0) (calls.captureOf (m .controller) .margin)) 16
-    (accepted (taken m) (calls.captureOf (m .controller) .meihap))))
+unfoldable pub takeEvent : Machine → Outcome
+takeEvent m =
+    ask m (eqb (m .mask) 1) 15
+    (ask m (ltZ (pos 0) (lookAt m .margin)) 16
+    (accepted (taken m) (lookAt m .meihap)))
 
 -- The handler, opened (01's word): marked once by the Open event.
 abbrev pub marked : Handler → Handler
 marked h = record { source = h .source; rank = h .rank; saved = h .saved; opened = 1 }
 
+-- The machine with another uppermost handler.
+abbrev pub withUppermost : Machine → Handler → Machine
+withUppermost m h = withStack m (set (m .stack) (m .depth - 1) h)
+
 -- Open: uppermost becomes opened, current takes its rank, mask 1. Answer: that rank.
+abbrev pub openedBy : Machine → Handler → Machine
+openedBy m h = withMask (withUppermost (withController m (setCurrent (m .controller) (h .rank))) (marked h)) 1
+
 abbrev pub opened : Machine → Machine
-opened m =
-    record {
-      controller = withCurrent (m .controller) (uppermost m .rank);
-      mask = 1;
-      depth = m .depth;
-      stack = set (m .stack) (m .depth - 1) (marked (uppermost m));
-    }
+opened m = openedBy m (uppermost m)
 
 -- 17. Open, chain, return: is a handler open?
 abbrev pub hasHandler : Machine → Bool
 hasHandler m = ltb 0 (m .depth)
 
 -- 17. 18. Open: is the uppermost unopened?
-unfoldable pub openOf : Machine → Outcome
-openOf m =
-    ask m (soundOf m) 8
-    (ask m (hasHandler m) 17
+unfoldable pub openEvent : Machine → Outcome
+openEvent m =
+    ask m (hasHandler m) 17
     (ask m (eqb (uppermost m .opened) 0) 18
-    (accepted (opened m) (uppermost m .rank .0))))
+    (accepted (opened m) (uppermost m .rank .0)))
 
 -- A chain serves the winner if its rank equals the uppermost handler's and is above threshold.
 abbrev pub serves : Machine → Bool
-serves m =
-    eqb (calls.captureOf (m .controller) .winner .rank .0) (uppermost m .rank .0) && calls.captureOf (m .controller) .above
+serves m = eqb (lookAt m .winner .rank .0) (uppermost m .rank .0) && lookAt m .above
 
 -- The handler with another source.
 abbrev pub replaced : Handler → ℕ → Handler
 replaced h s = record { source = s; rank = h .rank; saved = h .saved; opened = h .opened }
 
 -- Chain: capture. If the winner's rank equals the uppermost handler's and is above threshold, its source replaces that handler's;
-abbrev pub captured : Machine → Machine
-captured m = withController m (calls.captureOf (m .controller) .controller)
-
 abbrev pub chained : Machine → Machine
-chained m =
-    withStack (captured m) (set (m .stack) (m .depth - 1) (replaced (uppermost m) (calls.captureOf (m .controller) .winner .source)))
+chained m = withUppermost (captured m) (replaced (uppermost m) (lookAt m .winner .source))
 
--- answer meihap. Else answer 0. 17. 19. Chain, return: is mask 0?
-unfoldable pub chainOf : Machine → Outcome
-chainOf m =
-    ask m (soundOf m) 8
-    (ask m (hasHandler m) 17
-    (ask m (eqb (m .mask) 0) 19
-    (cond (serves m) (accepted (chained m) (calls.captureOf (m .controller) .meihap)) (accepted (captured m) 0))))
+-- answer meihap. Else answer 0, and that is no chaining of the handler.
+abbrev pub followed : Machine → Outcome
+followed m = cond (serves m) (accepted (chained m) (lookAt m .meihap)) (accepted (captured m) 0)
+
+-- 17. 19. Chain, return: is mask 0?
+unfoldable pub chainEvent : Machine → Outcome
+chainEvent m = ask m (hasHandler m) 17 (ask m (eqb (m .mask) 0) 19 (followed m))
 
 -- Return: pop; current takes the saved rank; mask 1. Answer: handlers still open.
 abbrev pub returned : Machine → Machine
-returned m = withMask (withDepth (withController m (withCurrent (m .controller) (uppermost m .saved))) (m .depth - 1)) 1
+returned m = withMask (withDepth (withController m (setCurrent (m .controller) (uppermost m .saved))) (m .depth - 1)) 1
 
 -- 17. 19.
-unfoldable pub returnOf : Machine → Outcome
-returnOf m =
-    ask m (soundOf m) 8
-    (ask m (hasHandler m) 17
+unfoldable pub returnEvent : Machine → Outcome
+returnEvent m =
+    ask m (hasHandler m) 17
     (ask m (eqb (m .mask) 0) 19
-    (accepted (returned m) (m .depth - 1))))
+    (accepted (returned m) (m .depth - 1)))
 
 -- Set mask to the value. 20. Is the value 0 or 1? 21. Value 1: no handler, or the uppermost opened?
-unfoldable pub setMaskOf : Machine → ℕ → Outcome
-setMaskOf m v =
-    ask m (soundOf m) 8
-    (ask m (leb v 1) 20
+unfoldable pub setMaskEvent : Machine → ℕ → Outcome
+setMaskEvent m v =
+    ask m (leb v 1) 20
     (ask m (eqb v 0 || isOpen m) 21
-    (accepted (withMask m v) 0)))
+    (accepted (withMask m v) 0))
 
--- An event by its kind: 0 sample, 1 load, 2 store, 3 CSR read, 4 CSR write, 5 take, 6 open, 7 chain, 8 return, 9 set mask to the value.
+-- An event by its kind: 0 sample, 1 load, 2 store, 3 CSR read, 4 CSR write, 5 take, 6 open, 7 chain, 8 return, 9 set mask to the value. A kind that there is not is
+-- refused with 6.
 unfoldable pub eventOf : Machine → ℕ → ℕ → ℕ → Outcome
 eventOf m kind address value =
-    cond (eqb kind 0) (sampleOf m address value)
-    (cond (eqb kind 1) (loadOf m address)
-    (cond (eqb kind 2) (storeOf m address value)
-    (cond (eqb kind 3) (csrReadOf m address)
-    (cond (eqb kind 4) (csrWriteOf m address value)
-    (cond (eqb kind 5) (takeOf m)
-    (cond (eqb kind 6) (openOf m)
-    (cond (eqb kind 7) (chainOf m)
-    (cond (eqb kind 8) (returnOf m)
-    (setMaskOf m value)))))))))
+    cond (eqb kind 0) (sampleEvent m address value)
+    (cond (eqb kind 1) (loadEvent m address)
+    (cond (eqb kind 2) (storeEvent m address value)
+    (cond (eqb kind 3) (csrReadEvent m address)
+    (cond (eqb kind 4) (csrWriteEvent m address value)
+    (cond (eqb kind 5) (takeEvent m)
+    (cond (eqb kind 6) (openEvent m)
+    (cond (eqb kind 7) (chainEvent m)
+    (cond (eqb kind 8) (returnEvent m)
+    (cond (eqb kind 9) (setMaskEvent m value)
+    (refused m 6))))))))))
 
--- Event: 8 comes first, then 6 and 7, then its kind's.
-unfoldable pub stepOf : Machine → ℕ → ℕ → Outcome
-stepOf m head value =
-    ask m (soundOf m) 8 (ask m (eqb (shapeOf head value) 0) (shapeOf head value) (eventOf m (kindOf head) (addressOf head) value))
+-- An event on a machine that is known to be sound: 6 and 7, then its kind's.
+unfoldable pub soundStepOf : Machine → ℕ → ℕ → Outcome
+soundStepOf m head value = ask m (eqb (shapeOf head value) 0) (shapeOf head value) (eventOf m (kindOf head) (addressOf head) value)

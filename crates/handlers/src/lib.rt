@@ -1,6 +1,8 @@
 // The machine: the interrupt controller with its mask and its stack of handlers, and the handler service.
 
-mod lifted;
+mod calls;
+mod checking;
+mod events;
 mod service;
 mod sound;
 
@@ -11,13 +13,31 @@ use pic::Controller;
 pub struct Machine {
     pub controller: Controller,
     pub mask: u8,
-    pub depth: usize,
+    pub depth: u8,
     pub stack: [Handler; 15],
 }
 
 // What an event hands back. A refused one answers 0 and hands back the machine as it was.
 pub struct Outcome {
     pub machine: Machine,
+    pub answer: u32,
+    pub refusal: u8,
+}
+
+// What the margin query answers.
+pub struct Margin {
+    pub margin: i32,
+    pub refusal: u8,
+}
+
+// A machine that was asked whether it is sound. Its field is private, so that only `start` and `enter` make one.
+pub struct Checked {
+    machine: Machine,
+}
+
+// What power-on, entering a machine and an event hand back.
+pub struct CheckedOutcome {
+    pub checked: Checked,
     pub answer: u32,
     pub refusal: u8,
 }

@@ -1,23 +1,17 @@
-// Take, open, chain, return and set mask.
+// Take, open, chain, return and set mask: what they do once question 8 is answered yes.
 
 ghost use mathlib.Core.Path.{_≡_};
 ghost use lib.IntN.{pos};
 ghost use lib.Signed.{ltZ};
-ghost use Prim.Native.Nat.{_-_, _≤_, _<_};
-ghost use mathlib.Core.Bool.{cond};
-ghost use lib.ListN.{set};
-ghost use Rattle.pic.specs.Calls.{captureOf};
-ghost use Rattle.handlers.specs.Fields.{withStack};
-ghost use Rattle.handlers.specs.Machines.{uppermost};
-ghost use Rattle.handlers.specs.Service.{accepted, taken, takeOf, opened, openOf, serves, replaced, captured, chained, chainOf, returned, returnOf, setMaskOf};
+ghost use Prim.Native.Nat.{_-_};
+ghost use Rattle.handlers.specs.Machines.{uppermost as uppermostHandler};
+ghost use Rattle.handlers.specs.Service.{takenBy, takeEvent, withUppermost, openedBy, openEvent, followed, chainEvent, returned, returnEvent, setMaskEvent};
 use crate::Machine;
 use crate::Outcome;
-use crate::sound::accept;
-use crate::sound::refuse;
 use handlers_stack::Handler;
-use pic::Capture;
-use pic_csrs::with_current;
-use pic_source::Rank;
+use handlers_stack::put;
+use handlers_stack::uppermost;
+use pic::Winner;
 
 // Whether a margin is above 0.
 fn is_above(margin: i32) -> bool
@@ -26,177 +20,166 @@ fn is_above(margin: i32) -> bool
     0 < margin
 }
 
+// One handler less, 0 for none.
+fn one_less(depth: u8) -> u8
+    ensures { λ r. ⌜ r ≡ depth - 1 ⌝ }
+{
+    if depth == 0 { 0 } else { depth - 1 }
+}
+
 impl Machine {
-    // Serves the winner: it is pushed, unopened, with the current rank as saved.
-    pub fn take(mut self) -> Outcome
-        ensures { λ r. ⌜ r ≡ takeOf self ⌝ }
+    // The uppermost handler.
+    fn top(self) -> Handler
+        ensures { λ r. ⌜ r ≡ uppermostHandler self ⌝ }
     {
-        if !self.stack_sound() {
-            return refuse(self, 8);
-        }
-        let c = self.controller;
-        let out = c.capture();
-        if out.refusal != 0 {
-            return refuse(self, 8);
-        }
-        if self.mask != 1 {
-            return refuse(self, 15);
-        }
-        if !is_above(out.margin) {
-            return refuse(self, 16);
-        }
-        accept(self.push(out), out.meihap)
+        let s = self.stack;
+        uppermost(s, self.depth)
     }
 
-    // The winner of a capture pushed, unopened, with the current rank as saved.
-    fn push(mut self, out: Capture) -> Machine
-        requires { ⌜ (self .depth < 15) × (out ≡ captureOf (self .controller)) ⌝ }
-        ensures { λ m. ⌜ m ≡ taken self ⌝ }
+    // The machine with another uppermost handler.
+    fn with_top(mut self, h: Handler) -> Machine
+        ensures { λ m. ⌜ m ≡ withUppermost self h ⌝ }
     {
-        let d = self.depth;
+        let s = self.stack;
+        let next = put(s, one_less(self.depth), h);
+        self.stack = next;
+        self
+    }
+
+    // Serves the winner: it is pushed, unopened, with the current rank as saved.
+    pub(crate) fn take_event(self) -> Outcome
+        ensures { λ r. ⌜ r ≡ takeEvent self ⌝ }
+    {
+        if self.mask != 1 {
+            return self.refuse(15);
+        }
         let c = self.controller;
-        let w = out.winner;
-        let r = w.rank;
-        let saved = c.current;
-        let next = out.controller;
-        self.stack[d] = Handler {
+        let look = c.look();
+        if !is_above(look.margin) {
+            return self.refuse(16);
+        }
+        self.push(look.winner).accept(look.meihap)
+    }
+
+    // The winner w captured and pushed, unopened, with the current rank as saved.
+    fn push(mut self, w: Winner) -> Machine
+        ensures { λ m. ⌜ m ≡ takenBy self w ⌝ }
+    {
+        let c = self.controller;
+        let d = self.depth;
+        let s = self.stack;
+        let rank = w.rank;
+        let saved = c.current_rank();
+        let h = Handler {
             source: w.source,
-            rank: r,
+            rank: rank,
             saved: saved,
             opened: 0,
         };
-        self.depth = d + 1;
-        self.mask = 0;
+        let next = c.capture(w);
+        let stack = put(s, d, h);
         self.controller = next;
+        self.stack = stack;
+        self.depth = std::num::wrapping_add_u8(d, 1);
+        self.mask = 0;
         self
     }
 
     // Opens the uppermost handler: it can be interrupted again by a higher rank.
-    pub fn open(mut self) -> Outcome
-        ensures { λ r. ⌜ r ≡ openOf self ⌝ }
+    pub(crate) fn open_event(self) -> Outcome
+        ensures { λ r. ⌜ r ≡ openEvent self ⌝ }
     {
-        if !self.is_sound() {
-            return refuse(self, 8);
-        }
         if self.depth == 0 {
-            return refuse(self, 17);
+            return self.refuse(17);
         }
         let h = self.top();
         if h.opened != 0 {
-            return refuse(self, 18);
+            return self.refuse(18);
         }
-        accept(self.mark(h), h.rank.0 as u32)
+        self.mark(h).accept(h.rank.0 as u32)
     }
 
     // The uppermost handler, h, marked as opened, its rank the current one, and the mask on.
     fn mark(mut self, mut h: Handler) -> Machine
-        requires { ⌜ (0 < self .depth) × (self .depth ≤ 15) × (h ≡ uppermost self) ⌝ }
-        ensures { λ m. ⌜ m ≡ opened self ⌝ }
+        ensures { λ m. ⌜ m ≡ openedBy self h ⌝ }
     {
-        let d = self.depth;
         let c = self.controller;
-        let next = with_current(c, h.rank);
+        let next = c.set_current(h.rank);
         h.opened = 1;
-        self.stack[d - 1] = h;
         self.controller = next;
         self.mask = 1;
-        self
+        self.with_top(h)
     }
 
     // Serves the winner in the uppermost handler's place, if it is of that handler's rank and above the threshold; else answers 0.
-    pub fn chain(mut self) -> Outcome
-        ensures { λ r. ⌜ r ≡ chainOf self ⌝ }
+    pub(crate) fn chain_event(self) -> Outcome
+        ensures { λ r. ⌜ r ≡ chainEvent self ⌝ }
     {
-        if !self.stack_sound() {
-            return refuse(self, 8);
-        }
-        let c = self.controller;
-        let out = c.capture();
-        if out.refusal != 0 {
-            return refuse(self, 8);
-        }
         if self.depth == 0 {
-            return refuse(self, 17);
+            return self.refuse(17);
         }
         if self.mask != 0 {
-            return refuse(self, 19);
+            return self.refuse(19);
         }
-        self.follow(out)
+        self.follow()
     }
 
     // A capture in the uppermost handler.
-    fn follow(mut self, out: Capture) -> Outcome
-        requires { ⌜ (0 < self .depth) × (self .depth ≤ 15) × (out ≡ captureOf (self .controller)) ⌝ }
-        ensures { λ r. ⌜ r ≡ cond (serves self) (accepted (chained self) (captureOf (self .controller) .meihap)) (accepted (captured self) 0) ⌝ }
+    fn follow(mut self) -> Outcome
+        ensures { λ r. ⌜ r ≡ followed self ⌝ }
     {
-        let h = self.top();
-        let w = out.winner;
-        let next = out.controller;
+        let mut h = self.top();
+        let c = self.controller;
+        let look = c.look();
+        let w = look.winner;
+        let next = c.capture(w);
         self.controller = next;
-        if (w.rank.0 == h.rank.0) & out.above {
-            return accept(self.replace(h, w.source), out.meihap);
+        if (w.rank.0 == h.rank.0) & look.above {
+            h.source = w.source;
+            return self.with_top(h).accept(look.meihap);
         }
-        accept(self, 0)
-    }
-
-    // The uppermost handler, h, with another source.
-    fn replace(mut self, mut h: Handler, s: u8) -> Machine
-        requires { ⌜ (0 < self .depth) × (self .depth ≤ 15) ⌝ }
-        ensures { λ m. ⌜ m ≡ withStack self (set (self .stack) (self .depth - 1) (replaced h s)) ⌝ }
-    {
-        let d = self.depth;
-        h.source = s;
-        self.stack[d - 1] = h;
-        self
+        self.accept(0)
     }
 
     // Ends the uppermost handler, and puts back the current rank that its taking found.
-    pub fn return_from(mut self) -> Outcome
-        ensures { λ r. ⌜ r ≡ returnOf self ⌝ }
+    pub(crate) fn return_event(self) -> Outcome
+        ensures { λ r. ⌜ r ≡ returnEvent self ⌝ }
     {
-        if !self.is_sound() {
-            return refuse(self, 8);
-        }
         let d = self.depth;
         if d == 0 {
-            return refuse(self, 17);
+            return self.refuse(17);
         }
         if self.mask != 0 {
-            return refuse(self, 19);
+            return self.refuse(19);
         }
-        let h = self.top();
-        accept(self.pop(h.saved), (d - 1) as u32)
+        self.pop().accept((d - 1) as u32)
     }
 
     // One handler less, the current rank its saved one, and the mask on.
-    fn pop(mut self, saved: Rank) -> Machine
-        requires { ⌜ (0 < self .depth) × (saved ≡ uppermost self .saved) ⌝ }
+    fn pop(mut self) -> Machine
         ensures { λ m. ⌜ m ≡ returned self ⌝ }
     {
-        let d = self.depth;
+        let h = self.top();
         let c = self.controller;
-        let next = with_current(c, saved);
+        let next = c.set_current(h.saved);
         self.controller = next;
-        self.depth = d - 1;
+        self.depth = one_less(self.depth);
         self.mask = 1;
         self
     }
 
     // Sets the mask to the value.
-    pub fn set_mask(mut self, v: u32) -> Outcome
-        ensures { λ r. ⌜ r ≡ setMaskOf self v ⌝ }
+    pub(crate) fn set_mask_event(mut self, v: u32) -> Outcome
+        ensures { λ r. ⌜ r ≡ setMaskEvent self v ⌝ }
     {
-        if !self.is_sound() {
-            return refuse(self, 8);
-        }
         if 1 < v {
-            return refuse(self, 20);
+            return self.refuse(20);
         }
         let h = self.top();
         if !((v == 0) | ((self.depth == 0) | (h.opened == 1))) {
-            return refuse(self, 21);
+            return self.refuse(21);
         }
         self.mask = v as u8;
-        accept(self, 0)
+        self.accept(0)
     }
 }

@@ -1,70 +1,72 @@
-// Whether a machine is sound.
+// Power-on, whether a machine is sound, and how an event is accepted or refused.
 
 ghost use mathlib.Core.Path.{_≡_};
-ghost use Prim.Native.Nat.{_≤_};
-ghost use Rattle.handlers.specs.Machines.{uppermost, stackSound, soundOf};
+ghost use Rattle.handlers.specs.Machines.{powerOnOf, soundOf};
 ghost use Rattle.handlers.specs.Service.{accepted, refused};
 use crate::Machine;
 use crate::Outcome;
-use handlers_stack::Handler;
 use handlers_stack::handlers_sound;
 use handlers_stack::level;
-
-pub(crate) fn refuse(m: Machine, q: u8) -> Outcome
-    ensures { λ r. ⌜ r ≡ refused m q ⌝ }
-{
-    Outcome {
-        machine: m,
-        answer: 0,
-        refusal: q,
-    }
-}
-
-pub(crate) fn accept(m: Machine, a: u32) -> Outcome
-    ensures { λ r. ⌜ r ≡ accepted m a ⌝ }
-{
-    Outcome {
-        machine: m,
-        answer: a,
-        refusal: 0,
-    }
-}
+use handlers_stack::no_handler;
+use handlers_stack::uppermost;
+use pic::Controller;
 
 impl Machine {
-    // The uppermost handler; without one, what is in the lowest place.
-    pub(crate) fn top(self) -> Handler
-        requires { ⌜ self .depth ≤ 15 ⌝ }
-        ensures { λ r. ⌜ r ≡ uppermost self ⌝ }
+    pub(crate) fn refuse(self, q: u8) -> Outcome
+        ensures { λ r. ⌜ r ≡ refused self q ⌝ }
     {
-        let d = self.depth;
-        if d == 0 {
-            return self.stack[0];
+        Outcome {
+            machine: self,
+            answer: 0,
+            refusal: q,
         }
-        self.stack[d - 1]
     }
 
-    // The handlers' part of soundness.
-    pub(crate) fn stack_sound(self) -> bool
-        ensures { λ r. ⌜ r ≡ stackSound self ⌝ }
+    pub(crate) fn accept(self, a: u32) -> Outcome
+        ensures { λ r. ⌜ r ≡ accepted self a ⌝ }
     {
-        let d = self.depth;
-        if 15 < d {
-            return false;
+        Outcome {
+            machine: self,
+            answer: a,
+            refusal: 0,
         }
-        let h = self.top();
-        let l = level(h);
-        let s = self.stack;
-        let open = (d == 0) | (h.opened == 1);
-        (self.mask <= 1)
-            & handlers_sound(self.controller.sources, d, s)
-            & ((d == 0) | (self.controller.current.0 == l.0))
-            & ((self.mask == 0) | open)
     }
 
+    // The machine at power-on with n sources; where n is not 2..255, refusal 2 and the machine of 2 sources.
+    pub fn power_on(n: u32) -> Outcome
+        ensures { λ r. ⌜ r ≡ powerOnOf n ⌝ }
+    {
+        let on = Controller::power_on(n);
+        let c = on.controller;
+        let h = no_handler();
+        let m = Machine {
+            controller: c,
+            mask: 0,
+            depth: 0,
+            stack: [h; 15],
+        };
+        Outcome {
+            machine: m,
+            answer: 0,
+            refusal: on.refusal,
+        }
+    }
+
+    // Question 8.
     pub fn is_sound(self) -> bool
         ensures { λ r. ⌜ r ≡ soundOf self ⌝ }
     {
+        let d = self.depth;
+        let s = self.stack;
         let c = self.controller;
-        self.stack_sound() & c.is_sound()
+        let h = uppermost(s, d);
+        let l = level(h);
+        let current = c.current_rank();
+        (d <= 15)
+            & (self.mask <= 1)
+            & handlers_sound(c.source_count(), d, s)
+            & ((d == 0) | (current.0 == l.0))
+            & ((self.mask == 0) | ((d == 0) | (h.opened == 1)))
+            & c.is_sound()
     }
 }

@@ -1,4 +1,9 @@
 -- Laws of the machine for the layers above.
+pub mod Facts
 pub mod Cases
 pub mod Kept
 pub mod Refused
+pub mod Checks
+pub mod Latches
+pub mod Ranks
+pub mod Values

@@ -6,44 +6,42 @@ use mathlib.Core.List.{List}
 use mathlib.Core.Logic.{_⊎_, inl, inr, ⊎-elim}
 use native.Mathlib.Numerals.{add-one}
 use native.Mathlib.Omega.{arith}
-use lib.ListN.{length, getD, set}
+use lib.ListN.{length, set}
 use lib.Seq.{getD-set-same, getD-set-other}
 use lib.Dec.{ltb, eqb}
-use borrow.Author.Tests.{leb-true, ltb-true, eqb-true, le-leb, lt-ltb, eq-eqb}
+use borrow.Author.Tests.{leb-true, ltb-true, eqb-true, le-leb, lt-ltb, eq-eqb, ne-eqb}
 use Rattle.pic_source.proofs.Bools.{and-parts, or-cases, or-intro, eq-cases, all-at}
 use Rattle.handlers_stack.specs.declared.Handler.{Handler}
-use Rattle.handlers_stack.specs.Stacks.{blank, handlerTests, handlerSound, belowOf, soundAt, handlersSound}
+use Rattle.pic_source.specs.declared.Rank.{Rank}
+use Rattle.handlers_stack.specs.Stacks.{blank, handlerTests, handlerSound, handlerAt, belowOf, soundAt, handlersSound, levelOf}
 
 -- One turn of `handlers_sound`.
 module _ (n depth : ℕ) (stack : List Handler) (k : ℕ) where
-  pub handlers-turn : {ok good : Bool} {below : ℕ} → ok ≡ handlersSound n depth stack k → below ≡ belowOf stack k
-      → good ≡ handlerSound n (eqb (k + 1) depth) (eqb k 0) below (getD stack k blank .source) (getD stack k blank .rank .0)
-      (getD stack k blank .saved .0) (getD stack k blank .opened)
+  pub handlers-turn : {ok good : Bool} {below : Rank} → ok ≡ handlersSound n depth stack k → below ≡ belowOf stack k
+      → good ≡ handlerSound n (eqb (k + 1) depth) (eqb k 0) below (handlerAt stack k)
       → ok && good ≡ handlersSound n depth stack (k + 1)
   unfolding handlersSound
   handlers-turn ho hb hg = rw (ho, hg, hb, add-one)
 
-  pub below-turn : getD stack k blank .rank .0 ≡ belowOf stack (k + 1)
+  pub below-turn : handlerAt stack k .rank ≡ belowOf stack (k + 1)
   unfolding belowOf
   below-turn = rw add-one
 
 -- What the test says of handler k, in numbers.
 pub record Fine (n depth : ℕ) (stack : List Handler) (k : ℕ) : Type 0 where
-  pub source-least : 1 ≤ getD stack k blank .source
-  pub source-most : getD stack k blank .source ≤ n
-  pub rank-least : 1 ≤ getD stack k blank .rank .0
-  pub rank-most : getD stack k blank .rank .0 ≤ 15
-  pub rises : (k ≡ 0) ⊎ (belowOf stack k < getD stack k blank .rank .0)
-  pub mark : getD stack k blank .opened ≤ 1
-  pub opened : (suc k ≡ depth) ⊎ (getD stack k blank .opened ≡ 1)
-  pub saves : (k ≡ 0) ⊎ (getD stack k blank .saved .0 ≡ belowOf stack k)
-  pub saved-less : getD stack k blank .saved .0 < getD stack k blank .rank .0
+  pub source-least : 1 ≤ handlerAt stack k .source
+  pub source-most : handlerAt stack k .source ≤ n
+  pub rank-least : 1 ≤ handlerAt stack k .rank .0
+  pub rank-most : handlerAt stack k .rank .0 ≤ 15
+  pub rises : (k ≡ 0) ⊎ (belowOf stack k .0 < handlerAt stack k .rank .0)
+  pub mark : handlerAt stack k .opened ≤ 1
+  pub opened : (suc k ≡ depth) ⊎ (handlerAt stack k .opened ≡ 1)
+  pub saves : (k ≡ 0) ⊎ (handlerAt stack k .saved .0 ≡ belowOf stack k .0)
+  pub saved-less : handlerAt stack k .saved .0 < handlerAt stack k .rank .0
 
 module _ (n depth : ℕ) (stack : List Handler) (k : ℕ) where
   tests : List Bool
-  tests =
-      handlerTests n (eqb (suc k) depth) (eqb k 0) (belowOf stack k) (getD stack k blank .source) (getD stack k blank .rank .0)
-      (getD stack k blank .saved .0) (getD stack k blank .opened)
+  tests = handlerTests n (eqb (suc k) depth) (eqb k 0) (belowOf stack k) (handlerAt stack k)
 
   pub fine : soundAt n depth stack k ≡ true → Fine n depth stack k
   unfolding handlerSound tests
@@ -69,10 +67,10 @@ module _ (n depth : ℕ) (stack : List Handler) (k : ℕ) where
         le-leb _ _ (f .source-most),
         le-leb _ _ (f .rank-least),
         le-leb _ _ (f .rank-most),
-        or-intro (eqb k 0) (ltb (belowOf stack k) (getD stack k blank .rank .0)) (⊎-elim (λ e. inl (eq-eqb k 0 e)) (λ e. inr (lt-ltb _ _ e)) (f .rises)),
+        or-intro (eqb k 0) (ltb (belowOf stack k .0) (handlerAt stack k .rank .0)) (⊎-elim (λ e. inl (eq-eqb k 0 e)) (λ e. inr (lt-ltb _ _ e)) (f .rises)),
         le-leb _ _ (f .mark),
-        or-intro (eqb (suc k) depth) (eqb (getD stack k blank .opened) 1) (⊎-elim (λ e. inl (eq-eqb (suc k) depth e)) (λ e. inr (eq-eqb _ 1 e)) (f .opened)),
-        or-intro (eqb k 0) (eqb (getD stack k blank .saved .0) (belowOf stack k)) (⊎-elim (λ e. inl (eq-eqb k 0 e)) (λ e. inr (eq-eqb _ _ e)) (f .saves)),
+        or-intro (eqb (suc k) depth) (eqb (handlerAt stack k .opened) 1) (⊎-elim (λ e. inl (eq-eqb (suc k) depth e)) (λ e. inr (eq-eqb _ 1 e)) (f .opened)),
+        or-intro (eqb k 0) (eqb (handlerAt stack k .saved .0) (belowOf stack k .0)) (⊎-elim (λ e. inl (eq-eqb k 0 e)) (λ e. inr (eq-eqb _ _ e)) (f .saves)),
         lt-ltb _ _ (f .saved-less),
       )
 
@@ -95,7 +93,7 @@ module _ (n depth : ℕ) (stack : List Handler) where
   each-back (suc k) f = rw (each-back k (λ j h. f j (omega arith)), fine-back n depth stack k (f k (omega arith)))
 
   -- Ranks rise strictly, so the rank of handler k is above k.
-  pub rank-high : (k : ℕ) → k < depth → ((j : ℕ) → j < depth → Fine n depth stack j) → k < getD stack k blank .rank .0
+  pub rank-high : (k : ℕ) → k < depth → ((j : ℕ) → j < depth → Fine n depth stack j) → k < handlerAt stack k .rank .0
   unfolding belowOf
   rank-high zero h f = f 0 h .rank-least
   rank-high (suc k) h f =
@@ -107,10 +105,10 @@ module _ (stack : List Handler) (i : ℕ) (h : Handler) where
   pub below-set : (k : ℕ) → k ≤ i → belowOf (set stack i h) k ≡ belowOf stack k
   unfolding belowOf
   below-set zero b = refl
-  below-set (suc k) b = ap (λ (g : Handler). g .rank .0) (getD-set-other stack i k h blank (λ e. omega arith))
+  below-set (suc k) b = ap (λ (g : Handler). g .rank) (getD-set-other stack i k h blank (λ e. omega arith))
 
   module _ (n depth : ℕ) where
-    pub fine-kept : {old : ℕ} (k : ℕ) → k < i → Fine n old stack k → (suc k ≡ depth) ⊎ (getD stack k blank .opened ≡ 1) → Fine n depth (set stack i h) k
+    pub fine-kept : {old : ℕ} (k : ℕ) → k < i → Fine n old stack k → (suc k ≡ depth) ⊎ (handlerAt stack k .opened ≡ 1) → Fine n depth (set stack i h) k
     fine-kept k b f o =
         let s = getD-set-other stack i k h blank (λ e. omega arith) in
         let l = below-set k (omega arith) in
@@ -132,10 +130,10 @@ module _ (stack : List Handler) (i : ℕ) (h : Handler) where
       pub source-most : h .source ≤ n
       pub rank-least : 1 ≤ h .rank .0
       pub rank-most : h .rank .0 ≤ 15
-      pub rises : (i ≡ 0) ⊎ (belowOf stack i < h .rank .0)
+      pub rises : (i ≡ 0) ⊎ (belowOf stack i .0 < h .rank .0)
       pub mark : h .opened ≤ 1
       pub opened : (suc i ≡ depth) ⊎ (h .opened ≡ 1)
-      pub saves : (i ≡ 0) ⊎ (h .saved .0 ≡ belowOf stack i)
+      pub saves : (i ≡ 0) ⊎ (h .saved .0 ≡ belowOf stack i .0)
       pub saved-less : h .saved .0 < h .rank .0
 
     pub fine-stored : i < length stack → Stored → Fine n depth (set stack i h) i
@@ -168,3 +166,22 @@ fine-popped n depth stack k b f =
       saves = f .saves;
       saved-less = f .saved-less;
     }
+
+-- The rank below a handler that is not the lowest.
+pub below-next : (stack : List Handler) (k : ℕ) → belowOf stack (suc k) ≡ handlerAt stack k .rank
+unfolding belowOf
+below-next stack k = refl
+
+-- The current rank that goes with an opened handler is its rank, with an unopened one its saved rank.
+pub level-opened : (h : Handler) → h .opened ≡ 1 → levelOf h ≡ h .rank
+unfolding levelOf
+level-opened h e = rw (eq-eqb (h .opened) 1 e)
+
+pub level-unopened : (h : Handler) → h .opened ≡ 0 → levelOf h ≡ h .saved
+unfolding levelOf
+level-unopened h e = rw (ne-eqb (h .opened) 1 (λ f. omega (arith, e, f)))
+
+-- It is the same for handlers of the same rank, saved rank and mark.
+pub level-same : (g h : Handler) → g .rank ≡ h .rank → g .saved ≡ h .saved → g .opened ≡ h .opened → levelOf g ≡ levelOf h
+unfolding levelOf
+level-same g h r s o = rw (r, s, o)

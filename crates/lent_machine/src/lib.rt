@@ -1,10 +1,9 @@
 // The bench's form of an event: one machine is lent, and changed.
 
 ghost use mathlib.Core.Path.{_≡_};
-ghost use Rattle.handlers.specs.Service.{stepOf};
+ghost use Rattle.handlers.specs.Calls.{stepOf};
 ghost use Rattle.lent_machine.specs.Lend.{answeredOf};
 use handlers::Machine;
-use steps::step;
 
 // What an event answers, and what it is refused with, 0 if it is accepted.
 pub struct Answered {
@@ -17,7 +16,7 @@ pub fn advance(m: &mut Machine, head: u32, value: u32) -> Answered
     ensures { λ _. ⌜ now (m .exit) ≡ stepOf (now (m .entry)) head value .machine ⌝ }
     ensures { λ r. ⌜ r ≡ answeredOf (now (m .entry)) head value ⌝ }
 {
-    let o = step(*m, head, value);
+    let o = Machine::step(*m, head, value);
     *m = o.machine;
     Answered {
         answer: o.answer,

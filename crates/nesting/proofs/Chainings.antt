@@ -6,7 +6,7 @@ use mathlib.Core.Logic.{_⊎_, inl, inr}
 use mathlib.Core.List.{List, [], _∷_, _++_, map, append-assoc, append-nil}
 use lib.Seq.{append-snoc}
 use Rattle.nesting.specs.Lists.{Member, Rising, addIf, lastOr}
-use Rattle.nesting.specs.Trace.{Entry, taking, chaining, returning, other, Place, stepOf, placeOf, Has, latestAfter, chains, chainingsFrom}
+use Rattle.nesting.specs.Trace.{Entry, taking, chaining, returning, other, Place, stepIn, placeOf, Has, latestAfter, chains, chainingsFrom}
 use Rattle.nesting.specs.Trace.{chainings, ChainingOf, ChainingsFound, served, Served, byTaking, byChaining, ServedFound}
 use Rattle.nesting.proofs.Lists.{all-of-members, all-at, member-add, rising-unique}
 use Rattle.nesting.proofs.OwnReturns.{extend}
@@ -31,13 +31,13 @@ module _ {X : Type 0} where
       go false = refl
 
   last-extend : (i : Entry X) (b : Bool) (x : X) (cs : List (Place X))
-      → lastOr x (steps (map (extend (i ∷ [])) cs ++ addIf b (placeOf i []) [])) ≡ cond b (stepOf i) (lastOr x (steps cs))
+      → lastOr x (steps (map (extend (i ∷ [])) cs ++ addIf b (placeOf i []) [])) ≡ cond b (stepIn i) (lastOr x (steps cs))
   last-extend i true x [] = refl
   last-extend i false x [] = refl
   last-extend i b x (c ∷ cs) = last-extend i b (c .at) cs
 
   -- So one more entry serves the handler only as a chaining of it.
-  pub served-extend : (i : Entry X) (t : Place X) → served (extend (i ∷ []) t) ≡ cond (chains (t .after) i) (stepOf i) (served t)
+  pub served-extend : (i : Entry X) (t : Place X) → served (extend (i ∷ []) t) ≡ cond (chains (t .after) i) (stepIn i) (served t)
   served-extend i t = rw (chainings-extend i [] (t .after)) (last-extend i (chains (t .after) i) (t .at) (chainings t))
 
   pub served-last : (y : X) (h : Place X) → Nest (h ∷ []) → served (extend (chaining y ∷ []) h) ≡ y

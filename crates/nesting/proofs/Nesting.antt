@@ -82,7 +82,7 @@ module _ (P : Machine) (L : Laws P) where
 
   -- A chaining serves the last of the handlers, and no other.
   chained : (x : Step P) (s : List (HandlerOf P)) (g h : HandlerOf P) (ts : List (Place (Step P))) → Nest ts → Match StandsWon (s ++ (g ∷ [])) ts
-      → Serves P (x .before) (x .said) h → P .Won (x .before) (h .source) → h .saved ≡ g .saved
+      → Serves P (x .before) (x .answered) h → P .Won (x .before) (h .source) → h .saved ≡ g .saved
       → Match StandsWon (s ++ (h ∷ [])) (map (extend (chaining x ∷ [])) ts)
   chained x [] g h [] n m k w e = m
   chained x [] g h (t ∷ []) n m k w e = (

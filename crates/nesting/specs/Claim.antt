@@ -54,7 +54,7 @@ module _ (P : Machine) where
   pub record Step : Type 0 where
     pub before : State
     pub event : Event
-    pub said : Answer
+    pub answered : Answer
     pub after : State
 
   -- The step as an entry of its class.
@@ -65,7 +65,7 @@ module _ (P : Machine) where
   classed isOther x = other x
 
   abbrev pub stepFrom : State → Event → Step
-  stepFrom m e = record { before = m; event = e; said = answer m e; after = next m e }
+  stepFrom m e = record { before = m; event = e; answered = answer m e; after = next m e }
 
   abbrev pub play : State → Event → Entry Step
   play m e = classed (class e (answer m e)) (stepFrom m e)
@@ -88,7 +88,7 @@ module _ (P : Machine) where
   -- The handler on the stack is that of the taking `t`: as its taking, or its latest chaining if it has one, served it, and with the current rank
   -- that its taking found.
   pub record Stands (h : HandlerOf) (t : Place Step) : Type 0 where
-    pub serves : Serves (served t .before) (served t .said) h
+    pub serves : Serves (served t .before) (served t .answered) h
     pub saved : h .saved ≡ current (t .at .before)
 
   -- The handler's source was the one to serve just before its taking, or its latest chaining if it has one.

@@ -194,7 +194,7 @@ handler s r v = record { source = s; rank = r; saved = v }
 
 -- The answers that the open handlers' sources are read from.
 abbrev pub servedAnswers : List Call → List ℕ
-servedAnswers es = map (λ (t : Place (Step small)). served t .said .number) (opens (trace small power es))
+servedAnswers es = map (λ (t : Place (Step small)). served t .answered .number) (opens (trace small power es))
 
 -- What the words of the claim are on these lists.
 pub record Computed : Type 0 where

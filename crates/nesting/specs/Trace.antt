@@ -26,14 +26,14 @@ isNone (some a) = false
 
 module _ {X : Type 0} where
   -- The step of an entry, and its place with `l` after it.
-  abbrev pub stepOf : Entry X → X
-  stepOf (taking x) = x
-  stepOf (chaining x) = x
-  stepOf (returning x) = x
-  stepOf (other x) = x
+  abbrev pub stepIn : Entry X → X
+  stepIn (taking x) = x
+  stepIn (chaining x) = x
+  stepIn (returning x) = x
+  stepIn (other x) = x
 
   abbrev pub placeOf : Entry X → List (Entry X) → Place X
-  placeOf e l = record { at = stepOf e; after = l }
+  placeOf e l = record { at = stepIn e; after = l }
 
   -- The list has a step of the class at this place: `Has taking l t` says that `t` is a taking of `l`.
   abbrev pub Has : (X → Entry X) → List (Entry X) → Place X → Type 0

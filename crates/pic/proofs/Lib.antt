@@ -3,7 +3,7 @@ pub mod Latches
 pub mod Soundness
 pub mod Winning
 pub mod Calling
-pub mod Gap
+pub mod Difference
 pub mod Larger
 pub mod Margins
 pub mod Turns

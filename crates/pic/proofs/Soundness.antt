@@ -1,6 +1,6 @@
 -- What soundness says, in numbers: the Bool of the rules taken apart and put together, for this crate and those above.
 use Prim.Native.Nat.{ℕ, zero, suc, _+_, _*_, _%_, _^_, _≤_, _<_}
-use mathlib.Core.Path.{_≡_, refl, sym, ap, _∙_}
+use mathlib.Core.Path.{_≡_, refl, sym}
 use mathlib.Core.Bool.{Bool, true, false, cond, _||_}
 use mathlib.Core.List.{List}
 use mathlib.Core.Logic.{⊎-elim}
@@ -11,11 +11,12 @@ use lib.Dec.{eqb}
 use borrow.Author.Tests.{leb-true, ltb-true, eqb-true, eqb-false, le-leb, lt-ltb, eq-eqb}
 use Rattle.pic.specs.declared.Controller.{Controller}
 use Rattle.pic_source.specs.Sources.{isActive, latchAfter}
-use Rattle.pic.specs.Fields.{withLatch}
-use Rattle.pic.specs.Sources.{rankAt, enableAt, triggerAt, polarityAt, lineAt, latchAt, settle, latchesTo}
+use Rattle.pic.specs.declared.Scalars.{Scalars}
+use Rattle.pic.specs.Fields.{withScalars}
+use Rattle.pic.specs.Sources.{rankAt, enableAt, triggerAt, polarityAt, lineAt, latchAt, thresholdOf, claimedOf, currentOf}
+use Rattle.pic.specs.Calls.{meihapOf}
 use Rattle.pic.specs.Sound.{placeTests, sourceSoundAt, sourcesSound, soundTests, soundOf, sourceTests, sourceSound}
 use Rattle.pic_source.proofs.Bools.{and-parts, or-cases, eq-cases, all-at}
-use Rattle.pic.proofs.Latches.{length-latches, latch-in, latches-same, after-after}
 
 -- An array with a place for each of the n sources, whose values at the sources are at most m.
 pub record Column (n : ℕ) (l : List ℕ) (m : ℕ) : Type 0 where
@@ -32,43 +33,41 @@ column-set {n} {m} {l} s v h c = record { long = rw (length-set l s v) (c .long)
         (λ e. rw (getD-set-other l s t v 0 e) (c .each t a b))
         (eq-cases t s)
 
--- Rank, enable, type, polarity, line and latch of every source are in range.
-abbrev pub Columns : Controller → Type 0
-Columns c =
-    Column (c .sources) (c .rank) 15
-    × Column (c .sources) (c .enable) 1
-    × Column (c .sources) (c .trigger) 1
-    × Column (c .sources) (c .polarity) 1
-    × Column (c .sources) (c .line) 1
-    × Column (c .sources) (c .latch) 1
+-- Rank, enable, type, polarity, line and latch of each of n sources are in range.
+pub record Columns (n : ℕ) (r e t p l a : List ℕ) : Type 0 where
+  pub rank : Column n r 15
+  pub enable : Column n e 1
+  pub trigger : Column n t 1
+  pub polarity : Column n p 1
+  pub line : Column n l 1
+  pub latch : Column n a 1
+
+abbrev pub ColumnsOf : Controller → Type 0
+ColumnsOf c = Columns (c .sources) (c .rank) (c .enable) (c .trigger) (c .polarity) (c .line) (c .latch)
 
 -- A multiple of 1,024 below 2^32.
 pub record Base (b : ℕ) : Type 0 where
   pub aligned : b % 1024 ≡ 0
   pub fits : b < 2 ^ 32
 
--- N, priord, base, claim, threshold, claimed and current are in range.
-abbrev pub Scalars : Controller → Type 0
-Scalars c =
-    (2 ≤ c .sources)
-    × (c .sources ≤ 255)
-    × (c .priord ≤ 1)
-    × Base (c .base)
-    × (c .claim ≤ c .sources)
-    × (c .threshold .0 ≤ 15)
-    × (c .claimed .0 ≤ 15)
-    × (c .current .0 ≤ 15)
+-- Priord, base, claim, threshold, claimed and current are in range, with n sources.
+pub record Ranges (n : ℕ) (v : Scalars) : Type 0 where
+  pub priord : v .priord ≤ 1
+  pub base : Base (v .base)
+  pub claim : v .claim ≤ n
+  pub threshold : thresholdOf v .0 ≤ 15
+  pub claimed : claimedOf v .0 ≤ 15
+  pub current : currentOf v .0 ≤ 15
 
 -- Each latch is as its line asks: set if that is active.
 abbrev pub Latched : Controller → Type 0
 Latched c = (s : ℕ) → 1 ≤ s → s ≤ c .sources → latchAfter (lineAt c s) (polarityAt c s) (latchAt c s) ≡ latchAt c s
 
-pub record InRange (c : Controller) : Type 0 where
-  pub columns : Columns c
-  pub scalars : Scalars c
-
 pub record Sound (c : Controller) : Type 0 where
-  pub inRange : InRange c
+  pub least : 2 ≤ c .sources
+  pub most : c .sources ≤ 255
+  pub columns : ColumnsOf c
+  pub ranges : Ranges (c .sources) (c .scalars)
   pub latched : Latched c
 
 -- The test of a latch, and what it says.
@@ -108,26 +107,25 @@ pub facts : (c : Controller) → soundOf c ≡ true → Sound c
 unfolding soundOf sourceSound
 facts c e =
     record {
-      inRange =
+      least = leb-true _ _ (t 3);
+      most = leb-true _ _ (t 1);
+      columns =
           record {
-            columns = (
-              record { long = ltb-true _ _ (place 0); each = λ s a b. leb-true _ _ (test s a b 0) },
-              record { long = ltb-true _ _ (place 1); each = λ s a b. leb-true _ _ (test s a b 1) },
-              record { long = ltb-true _ _ (place 2); each = λ s a b. leb-true _ _ (test s a b 2) },
-              record { long = ltb-true _ _ (place 3); each = λ s a b. leb-true _ _ (test s a b 3) },
-              record { long = ltb-true _ _ (place 4); each = λ s a b. leb-true _ _ (test s a b 4) },
-              record { long = ltb-true _ _ (place 5); each = λ s a b. leb-true _ _ (test s a b 5) },
-            );
-            scalars = (
-              leb-true _ _ (t 3),
-              leb-true _ _ (t 1),
-              leb-true _ _ (t 4),
-              record { aligned = eqb-true _ _ (t 5); fits = ltb-true _ _ (t 2) },
-              leb-true _ _ (t 6),
-              leb-true _ _ (t 7),
-              leb-true _ _ (t 8),
-              leb-true _ _ (t 9),
-            );
+            rank = record { long = ltb-true _ _ (place 0); each = λ s a b. leb-true _ _ (test s a b 0) };
+            enable = record { long = ltb-true _ _ (place 1); each = λ s a b. leb-true _ _ (test s a b 1) };
+            trigger = record { long = ltb-true _ _ (place 2); each = λ s a b. leb-true _ _ (test s a b 2) };
+            polarity = record { long = ltb-true _ _ (place 3); each = λ s a b. leb-true _ _ (test s a b 3) };
+            line = record { long = ltb-true _ _ (place 4); each = λ s a b. leb-true _ _ (test s a b 4) };
+            latch = record { long = ltb-true _ _ (place 5); each = λ s a b. leb-true _ _ (test s a b 5) };
+          };
+      ranges =
+          record {
+            priord = leb-true _ _ (t 4);
+            base = record { aligned = eqb-true _ _ (t 5); fits = ltb-true _ _ (t 2) };
+            claim = leb-true _ _ (t 6);
+            threshold = leb-true _ _ (t 7);
+            claimed = leb-true _ _ (t 8);
+            current = leb-true _ _ (t 9);
           };
       latched = λ s a b. latch-test (lineAt c s) (polarityAt c s) (latchAt c s) (test s a b 6);
     }
@@ -139,85 +137,57 @@ facts c e =
     place = all-at (placeTests c) (t 0)
 
     test : (s : ℕ) → 1 ≤ s → s ≤ c .sources → (i : ℕ)
-        → getD (sourceTests (rankAt c s .0) (enableAt c s) (triggerAt c s) (polarityAt c s) (lineAt c s) (latchAt c s)) i true ≡ true
-    test s a b = all-at (sourceTests (rankAt c s .0) (enableAt c s) (triggerAt c s) (polarityAt c s) (lineAt c s) (latchAt c s)) (sources-at c (c .sources) (t 10) s a b)
+        → getD (sourceTests (rankAt c s) (enableAt c s) (triggerAt c s) (polarityAt c s) (lineAt c s) (latchAt c s)) i true ≡ true
+    test s a b = all-at (sourceTests (rankAt c s) (enableAt c s) (triggerAt c s) (polarityAt c s) (lineAt c s) (latchAt c s)) (sources-at c (c .sources) (t 10) s a b)
 
 -- A controller of which they hold is sound.
 pub sound : (c : Controller) → Sound c → soundOf c ≡ true
 unfolding soundOf sourceSound
 sound c h =
-    let k = h .inRange .columns in
-    let v = h .inRange .scalars in
+    let k = h .columns in
+    let v = h .ranges in
     rw (
-      lt-ltb _ _ (k .0 .long),
-      lt-ltb _ _ (k .1 .long),
-      lt-ltb _ _ (k .2 .long),
-      lt-ltb _ _ (k .3 .long),
-      lt-ltb _ _ (k .4 .long),
-      lt-ltb _ _ (k .5 .long),
-      le-leb _ _ (v .1),
-      lt-ltb _ _ (v .3 .fits),
-      le-leb _ _ (v .0),
-      le-leb _ _ (v .2),
-      eq-eqb _ _ (v .3 .aligned),
-      le-leb _ _ (v .4),
-      le-leb _ _ (v .5),
-      le-leb _ _ (v .6),
-      le-leb _ _ (v .7),
+      lt-ltb _ _ (k .rank .long),
+      lt-ltb _ _ (k .enable .long),
+      lt-ltb _ _ (k .trigger .long),
+      lt-ltb _ _ (k .polarity .long),
+      lt-ltb _ _ (k .line .long),
+      lt-ltb _ _ (k .latch .long),
+      le-leb _ _ (h .most),
+      lt-ltb _ _ (v .base .fits),
+      le-leb _ _ (h .least),
+      le-leb _ _ (v .priord),
+      eq-eqb _ _ (v .base .aligned),
+      le-leb _ _ (v .claim),
+      le-leb _ _ (v .threshold),
+      le-leb _ _ (v .claimed),
+      le-leb _ _ (v .current),
       at-sources c (c .sources) each,
     )
   where
     each : (s : ℕ) → 1 ≤ s → s ≤ c .sources → sourceSoundAt c s ≡ true
     each s a b =
-        let k = h .inRange .columns in
+        let k = h .columns in
         rw (
-          le-leb _ _ (k .0 .each s a b),
-          le-leb _ _ (k .1 .each s a b),
-          le-leb _ _ (k .2 .each s a b),
-          le-leb _ _ (k .3 .each s a b),
-          le-leb _ _ (k .4 .each s a b),
-          le-leb _ _ (k .5 .each s a b),
+          le-leb _ _ (k .rank .each s a b),
+          le-leb _ _ (k .enable .each s a b),
+          le-leb _ _ (k .trigger .each s a b),
+          le-leb _ _ (k .polarity .each s a b),
+          le-leb _ _ (k .line .each s a b),
+          le-leb _ _ (k .latch .each s a b),
           test-latch _ _ _ (h .latched s a b),
         )
 
--- Settling the latches of a sound controller changes nothing.
-pub settle-same : (c : Controller) → Sound c → settle c ≡ c
-settle-same c h = rw (latches-same (c .line) (c .polarity) (c .latch) (c .sources) (h .latched))
+-- Other scalars in range keep a controller sound.
+pub scalars-sound : (c : Controller) (v : Scalars) → Sound c → Ranges (c .sources) v → Sound (withScalars c v)
+scalars-sound c v h r = record { least = h .least; most = h .most; columns = h .columns; ranges = r; latched = h .latched }
 
--- A change that leaves lines, polarities and latches alone.
-pub settle-kept : (c d : Controller) → Sound c → d .sources ≡ c .sources → d .line ≡ c .line → d .polarity ≡ c .polarity → d .latch ≡ c .latch
-    → d ≡ settle d
-settle-kept c d h n l p a =
-    ap (withLatch d) (a ∙ sym (latches-same (c .line) (c .polarity) (c .latch) (c .sources) (h .latched)) ∙ same)
-  where
-    same : latchesTo (c .line) (c .polarity) (c .latch) (c .sources) ≡ latchesTo (d .line) (d .polarity) (d .latch) (d .sources)
-    same = rw (n, l, p, a)
+-- Other columns in range, with settled latches, keep it sound.
+pub columns-sound : (c d : Controller) → Sound c → d .sources ≡ c .sources → d .scalars ≡ c .scalars → ColumnsOf d → Latched d → Sound d
+columns-sound c d h n e k l =
+    record { least = rw n (h .least); most = rw n (h .most); columns = k; ranges = rw (n, e) (h .ranges); latched = l }
 
--- Settling the latches of a controller whose values are in range makes it sound.
-pub settle-sound : (c : Controller) → InRange c → Sound (settle c)
-settle-sound c h =
-    let k = h .columns in
-    record {
-      inRange =
-          record {
-            columns = (k .0, k .1, k .2, k .3, k .4, record { long = rw (length-latches (c .line) (c .polarity) (c .latch) (c .sources)) (k .5 .long); each = small });
-            scalars = h .scalars;
-          };
-      latched = λ s a b. rw (latch-in (c .line) (c .polarity) (c .latch) (c .sources) s (k .5 .long) a b) (after-after (lineAt c s) (polarityAt c s) (latchAt c s));
-    }
-  where
-    low : (t : Bool) (l : ℕ) → l ≤ 1 → cond t 1 l ≤ 1
-    low true l b = omega arith
-    low false l b = b
-
-    small : (s : ℕ) → 1 ≤ s → s ≤ c .sources → getD (latchesTo (c .line) (c .polarity) (c .latch) (c .sources)) s 0 ≤ 1
-    small s a b =
-        rw (latch-in (c .line) (c .polarity) (c .latch) (c .sources) s (h .columns .5 .long) a b)
-        (low (isActive (lineAt c s) (polarityAt c s)) (latchAt c s) (h .columns .5 .each s a b))
-
--- meihap does not wrap.
-pub meihap-fits : (c : Controller) → Sound c → (s : ℕ) → s ≤ c .sources → c .base + 4 * s < 2 ^ 32
-meihap-fits c h s b =
-    let v = h .inRange .scalars in
-    let n = v .1 in
-    omega (arith, v .3 .aligned, v .3 .fits)
+-- With a base in range and a source's number meihap does not wrap.
+pub meihap-exact : (base claim : ℕ) → Base base → claim ≤ 255 → meihapOf base claim ≡ base + 4 * claim
+unfolding meihapOf
+meihap-exact base claim b h = omega (arith, b .aligned, b .fits)

@@ -10,7 +10,7 @@ use Rattle.pic.specs.Sound.{sourceSoundAt, sourcesSound}
 
 pub winner-turn : (c : Controller) (s : ℕ) {w w′ e : Winner}
     → w ≡ winnerTo c s
-    → e ≡ entryOf (eligibleAt c (s + 1)) (s + 1) (rankAt c (s + 1) .0)
+    → e ≡ entryOf (eligibleAt c (s + 1)) (s + 1) (rankAt c (s + 1))
     → w′ ≡ betterOf w e
     → w′ ≡ winnerTo c (s + 1)
 unfolding winnerTo

@@ -38,7 +38,7 @@ module _ (c : Controller) (n : ℕ) where
       gone : (s : ℕ) → s ≡ suc n → Eligible c (suc n) s → Before c w s
       gone s z a = never (sym e ∙ ap (eligibleAt c) (sym z) ∙ a .eligible)
   passed w e (inr h) =
-      inr (record { none = λ s a. ⊎-elim (λ z. never (sym e ∙ ap (eligibleAt c) (sym z) ∙ a .eligible)) (λ b. h .none s b) (split s a); nobody-won = h .nobody-won })
+      inr (record { none = λ s a. ⊎-elim (λ z. never (sym e ∙ ap (eligibleAt c) (sym z) ∙ a .eligible)) (λ b. h .none s b) (split s a); is-none = h .is-none })
 
   -- The last source is of a strictly higher rank than the winner of the others.
   taken : (w : Winner) → eligibleAt c (suc n) ≡ true → w .rank .0 < rankAt c (suc n) .0 → IsWinner c n w
@@ -68,7 +68,7 @@ module _ (c : Controller) (n : ℕ) where
           let f : rankAt c s .0 ≤ w .rank .0 = rw z l in
           ⊎-elim (λ g. inr (g, omega (arith, h .eligible .most))) (λ g. inl (omega (arith, g))) (eq-cases (rankAt c s .0) (w .rank .0))
   left w e l (inr h) =
-      let z : w .rank .0 ≡ 0 = ap (λ (v : Winner). v .rank .0) (h .nobody-won) in
+      let z : w .rank .0 ≡ 0 = ap (λ (v : Winner). v .rank .0) (h .is-none) in
       absurd (omega (arith, eligible-parts c (suc n) e .2))
 
   one-more : IsWinner c n (winnerTo c n) → IsWinner c (suc n) (winnerTo c (suc n))
@@ -81,13 +81,13 @@ module _ (c : Controller) (n : ℕ) where
       under false e f = left (winnerTo c n) e (ltb-false _ _ f) h
 
       go : (t : Bool) → eligibleAt c (suc n) ≡ t
-          → IsWinner c (suc n) (betterOf (winnerTo c n) (entryOf (eligibleAt c (suc n)) (suc n) (rankAt c (suc n) .0)))
+          → IsWinner c (suc n) (betterOf (winnerTo c n) (entryOf (eligibleAt c (suc n)) (suc n) (rankAt c (suc n))))
       go true e = rw e (under (ltb (winnerTo c n .rank .0) (rankAt c (suc n) .0)) e refl)
       go false e = rw (e, le-ltb (winnerTo c n .rank .0) 0 (omega arith)) (passed (winnerTo c n) e h)
 
 winner-to : (c : Controller) (n : ℕ) → IsWinner c n (winnerTo c n)
 unfolding winnerTo
-winner-to c zero = inr (record { none = λ s h. omega (arith, h .least, h .most); nobody-won = refl })
+winner-to c zero = inr (record { none = λ s h. omega (arith, h .least, h .most); is-none = refl })
 winner-to c (suc n) = one-more c n (winner-to c n)
 
 -- The winner is the eligible source of highest rank, of equals the lowest number; with none it is 0, of rank 0.
@@ -100,8 +100,8 @@ winner-small c h = go (winner-is c)
   where
     go : IsWinner c (c .sources) (winnerOf c) → (winnerOf c .source ≤ c .sources) × (winnerOf c .rank .0 ≤ 15)
     go (inl s) =
-        (s .eligible .most, rw (s .ranked) (h .inRange .columns .0 .each (winnerOf c .source) (s .eligible .least) (s .eligible .most)))
-    go (inr i) = rw (i .nobody-won) (omega arith, omega arith)
+        (s .eligible .most, rw (s .ranked) (h .columns .rank .each (winnerOf c .source) (s .eligible .least) (s .eligible .most)))
+    go (inr i) = rw (i .is-none) (omega arith, omega arith)
 
 -- And back.
 pub eligible-is : (c : Controller) (s : ℕ) → enableAt c s ≡ 1 → pendingAt c s ≡ true → 1 ≤ rankAt c s .0 → eligibleAt c s ≡ true

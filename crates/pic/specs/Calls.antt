@@ -1,59 +1,65 @@
--- Document 01, "Questions, first no decides": power-on, the margin query and the capture; and how a question is asked.
-use Prim.Native.Nat.{ℕ, _+_, _*_}
-use mathlib.Core.Bool.{Bool, false, cond}
+-- Document 01: what the controller answers to the layer above, and how a question is asked. No call of the controller asks whether it is sound: each has an
+-- answer for every controller. Question 8 is the machine's.
+use Prim.Native.Nat.{ℕ, _+_, _*_, _%_, _^_}
+use mathlib.Core.Bool.{Bool, cond}
 use lib.Dec.{ltb}
-use lib.IntN.{pos}
-use Rattle.pic.specs.Sources.{nobody, settle, winnerOf, marginOf, captured}
+use Rattle.pic_source.specs.declared.Rank.{Rank}
 use Rattle.pic.specs.declared.Controller.{Controller}
+use Rattle.pic.specs.declared.Scalars.{Scalars}
+use Rattle.pic.specs.declared.Winner.{Winner}
 use Rattle.pic.specs.declared.Outcome.{Outcome}
-use Rattle.pic.specs.declared.Margin.{Margin}
-use Rattle.pic.specs.declared.Capture.{Capture}
-use Rattle.pic.specs.Sound.{initial, isCount, soundOf}
+use Rattle.pic.specs.declared.Look.{Look}
+use Rattle.pic.specs.Fields.{withScalars, withClaim, withClaimed, withCurrent}
+use Rattle.pic.specs.Sources.{thresholdOf, currentOf, winnerOf, marginOf}
+use Rattle.pic.specs.Sound.{initial, isCount}
 
--- An accepted event hands back a controller and its answer, with no refusal.
-abbrev pub handed : Controller → ℕ → Outcome
-handed c a = record { controller = c; answer = a; refusal = 0 }
+-- The controller accepts an event: it hands back a controller and an answer, with no refusal.
+abbrev pub accepts : Controller → ℕ → Outcome
+accepts c a = record { controller = c; answer = a; refusal = 0 }
 
--- After each accepted event the latches are settled.
-abbrev pub accepted : Controller → ℕ → Outcome
-accepted c a = handed (settle c) a
+-- The controller refuses an event: it answers 0 and the number, and is left as it was.
+abbrev pub refuses : Controller → ℕ → Outcome
+refuses c q = record { controller = c; answer = 0; refusal = q }
 
--- A refused event answers 0 and the number, and leaves the controller as it was.
-abbrev pub refused : Controller → ℕ → Outcome
-refused c q = record { controller = c; answer = 0; refusal = q }
-
--- A question: no is the refusal q, yes goes on.
-abbrev pub ask : Controller → Bool → ℕ → Outcome → Outcome
-ask c answer q on = cond answer on (refused c q)
+-- A question of the controller's: no is the refusal q, yes goes on.
+abbrev pub asks : Controller → Bool → ℕ → Outcome → Outcome
+asks c answer q on = cond answer on (refuses c q)
 
 -- 2. Is N in 2..255? No: 2, and power-on then hands back the machine of N 2.
 unfoldable pub powerOnOf : ℕ → Outcome
-powerOnOf n = cond (isCount n) (handed (initial n) 0) (refused (initial 2) 2)
+powerOnOf n = cond (isCount n) (accepts (initial n) 0) (refuses (initial 2) 2)
 
--- A query gives the margin for any sound machine; refused, it answers 0 and the number.
-unfoldable pub marginAnswer : Controller → Margin
-marginAnswer c = cond (soundOf c) (record { margin = marginOf c; refusal = 0 }) (record { margin = pos 0; refusal = 8 })
+-- N, the number of sources.
+unfoldable pub sourceCount : Controller → ℕ
+sourceCount c = c .sources
 
--- meihap = base + 4 × claim.
-abbrev pub meihapOf : Controller → ℕ
-meihapOf c = c .base + 4 * c .claim
+-- The current rank.
+unfoldable pub currentRank : Controller → Rank
+currentRank c = currentOf (c .scalars)
 
--- A capture, for the layer above: the controller, meihap after it, the winner, whether that is above the threshold, of a rank greater than it, and the
--- margin, as just before.
-abbrev pub capturing : Controller → Capture
-capturing c =
+-- The controller with another current rank, as open and return set it.
+unfoldable pub setCurrent : Controller → Rank → Controller
+setCurrent c r = withScalars c (withCurrent (c .scalars) r)
+
+-- meihap = base + 4 × claim, a word of 32 bits. On a sound controller the sum fits (`meihap-exact`).
+unfoldable pub meihapOf : ℕ → ℕ → ℕ
+meihapOf base claim = (base + 4 * claim) % 2 ^ 32
+
+-- Claim and claimed from a winner.
+abbrev pub claimBy : Scalars → Winner → Scalars
+claimBy v w = withClaimed (withClaim v (w .source)) (w .rank)
+
+-- A capture sets claim and claimed from the winner, threshold or not. The winner is handed in, so that one look at the sources is enough.
+unfoldable pub captureOf : Controller → Winner → Controller
+captureOf c w = withScalars c (claimBy (c .scalars) w)
+
+-- One look at the sources, for the layer above: the winner; whether it is above the threshold, of a rank greater than it; the margin; and what meihap is once the winner
+-- is captured.
+unfoldable pub lookOf : Controller → Look
+lookOf c =
     record {
-      controller = settle (captured c);
-      meihap = meihapOf (captured c);
       winner = winnerOf c;
-      above = ltb (c .threshold .0) (winnerOf c .rank .0);
+      above = ltb (thresholdOf (c .scalars) .0) (winnerOf c .rank .0);
       margin = marginOf c;
-      refusal = 0;
+      meihap = meihapOf (c .scalars .base) (winnerOf c .source);
     }
-
--- Refused, it captures nothing.
-abbrev pub notCaptured : Controller → ℕ → Capture
-notCaptured c q = record { controller = c; meihap = 0; winner = nobody; above = false; margin = pos 0; refusal = q }
-
-unfoldable pub captureOf : Controller → Capture
-captureOf c = cond (soundOf c) (capturing c) (notCaptured c 8)

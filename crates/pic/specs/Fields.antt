@@ -1,7 +1,8 @@
--- A setter for each field of a controller: the controller with that field changed.
+-- A setter for each field of a controller and of its scalars: the same with that field changed.
 use Prim.Native.Nat.{ℕ}
 use mathlib.Core.List.{List}
 use Rattle.pic.specs.declared.Controller.{Controller}
+use Rattle.pic.specs.declared.Scalars.{Scalars}
 use Rattle.pic_source.specs.declared.Rank.{Rank}
 
 abbrev pub withRank : Controller → List ℕ → Controller
@@ -14,12 +15,7 @@ withRank m v =
       polarity = m .polarity;
       line = m .line;
       latch = m .latch;
-      priord = m .priord;
-      base = m .base;
-      claim = m .claim;
-      threshold = m .threshold;
-      claimed = m .claimed;
-      current = m .current;
+      scalars = m .scalars;
     }
 
 abbrev pub withEnable : Controller → List ℕ → Controller
@@ -32,12 +28,7 @@ withEnable m v =
       polarity = m .polarity;
       line = m .line;
       latch = m .latch;
-      priord = m .priord;
-      base = m .base;
-      claim = m .claim;
-      threshold = m .threshold;
-      claimed = m .claimed;
-      current = m .current;
+      scalars = m .scalars;
     }
 
 abbrev pub withTrigger : Controller → List ℕ → Controller
@@ -50,12 +41,7 @@ withTrigger m v =
       polarity = m .polarity;
       line = m .line;
       latch = m .latch;
-      priord = m .priord;
-      base = m .base;
-      claim = m .claim;
-      threshold = m .threshold;
-      claimed = m .claimed;
-      current = m .current;
+      scalars = m .scalars;
     }
 
 abbrev pub withPolarity : Controller → List ℕ → Controller
@@ -68,12 +54,7 @@ withPolarity m v =
       polarity = v;
       line = m .line;
       latch = m .latch;
-      priord = m .priord;
-      base = m .base;
-      claim = m .claim;
-      threshold = m .threshold;
-      claimed = m .claimed;
-      current = m .current;
+      scalars = m .scalars;
     }
 
 abbrev pub withLine : Controller → List ℕ → Controller
@@ -86,12 +67,7 @@ withLine m v =
       polarity = m .polarity;
       line = v;
       latch = m .latch;
-      priord = m .priord;
-      base = m .base;
-      claim = m .claim;
-      threshold = m .threshold;
-      claimed = m .claimed;
-      current = m .current;
+      scalars = m .scalars;
     }
 
 abbrev pub withLatch : Controller → List ℕ → Controller
@@ -104,16 +80,11 @@ withLatch m v =
       polarity = m .polarity;
       line = m .line;
       latch = v;
-      priord = m .priord;
-      base = m .base;
-      claim = m .claim;
-      threshold = m .threshold;
-      claimed = m .claimed;
-      current = m .current;
+      scalars = m .scalars;
     }
 
-abbrev pub withPriord : Controller → ℕ → Controller
-withPriord m v =
+abbrev pub withScalars : Controller → Scalars → Controller
+withScalars m v =
     record {
       sources = m .sources;
       rank = m .rank;
@@ -122,100 +93,71 @@ withPriord m v =
       polarity = m .polarity;
       line = m .line;
       latch = m .latch;
+      scalars = v;
+    }
+
+abbrev pub withPriord : Scalars → ℕ → Scalars
+withPriord s v =
+    record {
       priord = v;
-      base = m .base;
-      claim = m .claim;
-      threshold = m .threshold;
-      claimed = m .claimed;
-      current = m .current;
+      base = s .base;
+      claim = s .claim;
+      threshold = s .threshold;
+      claimed = s .claimed;
+      current = s .current;
     }
 
-abbrev pub withBase : Controller → ℕ → Controller
-withBase m v =
+abbrev pub withBase : Scalars → ℕ → Scalars
+withBase s v =
     record {
-      sources = m .sources;
-      rank = m .rank;
-      enable = m .enable;
-      trigger = m .trigger;
-      polarity = m .polarity;
-      line = m .line;
-      latch = m .latch;
-      priord = m .priord;
+      priord = s .priord;
       base = v;
-      claim = m .claim;
-      threshold = m .threshold;
-      claimed = m .claimed;
-      current = m .current;
+      claim = s .claim;
+      threshold = s .threshold;
+      claimed = s .claimed;
+      current = s .current;
     }
 
-abbrev pub withClaim : Controller → ℕ → Controller
-withClaim m v =
+abbrev pub withClaim : Scalars → ℕ → Scalars
+withClaim s v =
     record {
-      sources = m .sources;
-      rank = m .rank;
-      enable = m .enable;
-      trigger = m .trigger;
-      polarity = m .polarity;
-      line = m .line;
-      latch = m .latch;
-      priord = m .priord;
-      base = m .base;
+      priord = s .priord;
+      base = s .base;
       claim = v;
-      threshold = m .threshold;
-      claimed = m .claimed;
-      current = m .current;
+      threshold = s .threshold;
+      claimed = s .claimed;
+      current = s .current;
     }
 
-abbrev pub withThreshold : Controller → Rank → Controller
-withThreshold m v =
+abbrev pub withThreshold : Scalars → Rank → Scalars
+withThreshold s v =
     record {
-      sources = m .sources;
-      rank = m .rank;
-      enable = m .enable;
-      trigger = m .trigger;
-      polarity = m .polarity;
-      line = m .line;
-      latch = m .latch;
-      priord = m .priord;
-      base = m .base;
-      claim = m .claim;
+      priord = s .priord;
+      base = s .base;
+      claim = s .claim;
       threshold = v;
-      claimed = m .claimed;
-      current = m .current;
+      claimed = s .claimed;
+      current = s .current;
     }
 
-abbrev pub withClaimed : Controller → Rank → Controller
-withClaimed m v =
+abbrev pub withClaimed : Scalars → Rank → Scalars
+withClaimed s v =
     record {
-      sources = m .sources;
-      rank = m .rank;
-      enable = m .enable;
-      trigger = m .trigger;
-      polarity = m .polarity;
-      line = m .line;
-      latch = m .latch;
-      priord = m .priord;
-      base = m .base;
-      claim = m .claim;
-      threshold = m .threshold;
+      priord = s .priord;
+      base = s .base;
+      claim = s .claim;
+      threshold = s .threshold;
       claimed = v;
-      current = m .current;
+      current = s .current;
     }
 
-abbrev pub withCurrent : Controller → Rank → Controller
-withCurrent m v =
+abbrev pub withCurrent : Scalars → Rank → Scalars
+withCurrent s v =
     record {
-      sources = m .sources;
-      rank = m .rank;
-      enable = m .enable;
-      trigger = m .trigger;
-      polarity = m .polarity;
-      line = m .line;
-      latch = m .latch;
-      priord = m .priord;
-      base = m .base;
-      claim = m .claim;
-      threshold = m .threshold;
-      claimed = m .claimed;
+      priord = s .priord;
+      base = s .base;
+      claim = s .claim;
+      threshold = s .threshold;
+      claimed = s .claimed;
       current = v;
     }

@@ -5,9 +5,10 @@ use mathlib.Core.List.{List, [], _∷_}
 use lib.ListN.{length, replicate}
 use lib.Dec.{leb, ltb, eqb}
 use Rattle.pic.specs.declared.Controller.{Controller}
+use Rattle.pic_source.specs.declared.Rank.{Rank}
 use Rattle.pic_source.specs.Ranks.{rank}
-use Rattle.pic_source.specs.Tests.{all}
-use Rattle.pic.specs.Sources.{rankAt, enableAt, triggerAt, polarityAt, lineAt, latchAt}
+use Rattle.pic_source.specs.Tests.{allHold}
+use Rattle.pic.specs.Sources.{rankAt, enableAt, triggerAt, polarityAt, lineAt, latchAt, thresholdOf, claimedOf, currentOf}
 
 -- Power-on with N sets all else to 0.
 abbrev pub initial : ℕ → Controller
@@ -20,12 +21,7 @@ initial n =
       polarity = replicate 256 0;
       line = replicate 256 0;
       latch = replicate 256 0;
-      priord = 0;
-      base = 0;
-      claim = 0;
-      threshold = rank 0;
-      claimed = rank 0;
-      current = rank 0;
+      scalars = record { priord = 0; base = 0; claim = 0; threshold = rank 0; claimed = rank 0; current = rank 0 };
     }
 
 -- N, the number of sources, 2..255.
@@ -44,9 +40,9 @@ placeTests c =
     ∷ []
 
 -- The values of a source are in range, and its latch is set if its line is active.
-abbrev pub sourceTests : ℕ → ℕ → ℕ → ℕ → ℕ → ℕ → List Bool
-sourceTests rank enable trigger polarity line latch =
-    leb rank 15
+abbrev pub sourceTests : Rank → ℕ → ℕ → ℕ → ℕ → ℕ → List Bool
+sourceTests r enable trigger polarity line latch =
+    leb (r .0) 15
     ∷ leb enable 1
     ∷ leb trigger 1
     ∷ leb polarity 1
@@ -55,11 +51,11 @@ sourceTests rank enable trigger polarity line latch =
     ∷ (eqb line polarity || eqb latch 1)
     ∷ []
 
-unfoldable pub sourceSound : ℕ → ℕ → ℕ → ℕ → ℕ → ℕ → Bool
-sourceSound rank enable trigger polarity line latch = all (sourceTests rank enable trigger polarity line latch)
+unfoldable pub sourceSound : Rank → ℕ → ℕ → ℕ → ℕ → ℕ → Bool
+sourceSound r enable trigger polarity line latch = allHold (sourceTests r enable trigger polarity line latch)
 
 abbrev pub sourceSoundAt : Controller → ℕ → Bool
-sourceSoundAt c s = sourceSound (rankAt c s .0) (enableAt c s) (triggerAt c s) (polarityAt c s) (lineAt c s) (latchAt c s)
+sourceSoundAt c s = sourceSound (rankAt c s) (enableAt c s) (triggerAt c s) (polarityAt c s) (lineAt c s) (latchAt c s)
 
 -- So for the sources 1 to n.
 unfoldable pub sourcesSound : Controller → ℕ → Bool
@@ -70,18 +66,18 @@ sourcesSound c (suc n) = sourcesSound c n && sourceSoundAt c (suc n)
 -- of 1,024 below 2^32; claim is a source number or 0.
 abbrev pub soundTests : Controller → List Bool
 soundTests c =
-    all (placeTests c)
+    allHold (placeTests c)
     ∷ leb (c .sources) 255
-    ∷ ltb (c .base) (2 ^ 32)
+    ∷ ltb (c .scalars .base) (2 ^ 32)
     ∷ leb 2 (c .sources)
-    ∷ leb (c .priord) 1
-    ∷ eqb (c .base % 1024) 0
-    ∷ leb (c .claim) (c .sources)
-    ∷ leb (c .threshold .0) 15
-    ∷ leb (c .claimed .0) 15
-    ∷ leb (c .current .0) 15
+    ∷ leb (c .scalars .priord) 1
+    ∷ eqb (c .scalars .base % 1024) 0
+    ∷ leb (c .scalars .claim) (c .sources)
+    ∷ leb (thresholdOf (c .scalars) .0) 15
+    ∷ leb (claimedOf (c .scalars) .0) 15
+    ∷ leb (currentOf (c .scalars) .0) 15
     ∷ sourcesSound c (c .sources)
     ∷ []
 
 unfoldable pub soundOf : Controller → Bool
-soundOf c = all (soundTests c)
+soundOf c = allHold (soundTests c)

@@ -1,13 +1,11 @@
-// The margin query and the capture.
+// What the controller answers to the layers above: N, the current rank, a look at the winner, the capture; and how an event is accepted or refused.
 
 ghost use mathlib.Core.Path.{_≡_};
-ghost use mathlib.Core.Bool.{true};
-ghost use Rattle.pic.specs.Sources.{gapOf, higherOf, winnerOf};
-ghost use Rattle.pic.specs.Sound.{soundOf};
-ghost use Rattle.pic.specs.Calls.{marginAnswer, capturing, notCaptured, captureOf};
-use crate::Capture;
+ghost use Rattle.pic.specs.Sources.{differenceOf, higherOf};
+ghost use Rattle.pic.specs.Calls.{accepts, refuses, sourceCount, currentRank, setCurrent, meihapOf, captureOf, lookOf};
 use crate::Controller;
-use crate::Margin;
+use crate::Look;
+use crate::Outcome;
 use crate::Winner;
 use pic_source::Rank;
 
@@ -19,75 +17,86 @@ fn higher(a: Rank, b: Rank) -> Rank
 }
 
 // The first rank minus the second.
-fn gap(a: Rank, b: Rank) -> i32
-    ensures { λ r. ⌜ r ≡ gapOf a b ⌝ }
+fn difference(a: Rank, b: Rank) -> i32
+    ensures { λ r. ⌜ r ≡ differenceOf a b ⌝ }
 {
     (a.0 as i32) - (b.0 as i32)
 }
 
-// What a refused capture hands back.
-fn not_captured(c: Controller, q: u8) -> Capture
-    ensures { λ r. ⌜ r ≡ notCaptured c q ⌝ }
+// The word of meihap.
+pub fn meihap(base: u32, claim: u8) -> u32
+    ensures { λ r. ⌜ r ≡ meihapOf base claim ⌝ }
 {
-    Capture {
-        controller: c,
-        meihap: 0,
-        winner: Winner {
-            source: 0,
-            rank: Rank(0),
-        },
-        above: false,
-        margin: 0,
-        refusal: q,
-    }
+    std::num::wrapping_add_u32(base, 4 * (claim as u32))
 }
 
 impl Controller {
-    // The margin: the winner's rank minus the larger of threshold and current.
-    pub fn margin(self) -> Margin
-        ensures { λ r. ⌜ r ≡ marginAnswer self ⌝ }
+    pub fn accept(self, a: u32) -> Outcome
+        ensures { λ r. ⌜ r ≡ accepts self a ⌝ }
     {
-        if !self.is_sound() {
-            return Margin {
-                margin: 0,
-                refusal: 8,
-            };
-        }
-        let w = self.winner();
-        Margin {
-            margin: gap(w.rank, higher(self.threshold, self.current)),
-            refusal: 0,
-        }
-    }
-
-    // Claim and claimed from the winner, and all that the layer above asks of it, from one look.
-    pub fn capture(mut self) -> Capture
-        ensures { λ r. ⌜ r ≡ captureOf self ⌝ }
-    {
-        if !self.is_sound() {
-            return not_captured(self, 8);
-        }
-        self.capture_winner(self.winner())
-    }
-
-    // A capture on a sound controller, whose winner is w.
-    fn capture_winner(mut self, w: Winner) -> Capture
-        requires { ⌜ (soundOf self ≡ true) × (w ≡ winnerOf self) ⌝ }
-        ensures { λ r. ⌜ r ≡ capturing self ⌝ }
-    {
-        let r = w.rank;
-        let margin = gap(r, higher(self.threshold, self.current));
-        let above = self.threshold.0 < r.0;
-        let meihap = self.base + 4 * (w.source as u32);
-        self.claim = w.source;
-        self.claimed = r;
-        Capture {
+        Outcome {
             controller: self,
-            meihap: meihap,
-            winner: w,
-            above: above,
-            margin: margin,
+            answer: a,
             refusal: 0,
+        }
+    }
+
+    pub fn refuse(self, q: u8) -> Outcome
+        ensures { λ r. ⌜ r ≡ refuses self q ⌝ }
+    {
+        Outcome {
+            controller: self,
+            answer: 0,
+            refusal: q,
+        }
+    }
+
+    // N.
+    pub fn source_count(self) -> u8
+        ensures { λ r. ⌜ r ≡ sourceCount self ⌝ }
+    {
+        self.sources
+    }
+
+    pub fn current_rank(self) -> Rank
+        ensures { λ r. ⌜ r ≡ currentRank self ⌝ }
+    {
+        self.scalars.current
+    }
+
+    // The controller with another current rank, as the layer above sets it.
+    pub fn set_current(mut self, rank: Rank) -> Controller
+        ensures { λ d. ⌜ d ≡ setCurrent self rank ⌝ }
+    {
+        let mut v = self.scalars;
+        v.current = rank;
+        self.scalars = v;
+        self
+    }
+
+    // Claim and claimed from the winner w.
+    pub fn capture(mut self, w: Winner) -> Controller
+        ensures { λ d. ⌜ d ≡ captureOf self w ⌝ }
+    {
+        let mut v = self.scalars;
+        let r = w.rank;
+        v.claim = w.source;
+        v.claimed = r;
+        self.scalars = v;
+        self
+    }
+
+    // All that the layer above asks of the winner, from one look.
+    pub fn look(self) -> Look
+        ensures { λ r. ⌜ r ≡ lookOf self ⌝ }
+    {
+        let w = self.winner();
+        let v = self.scalars;
+        Look {
+            winner: w,
+            above: v.threshold.0 < w.rank.0,
+            margin: difference(w.rank, higher(v.threshold, v.current)),
+            meihap: meihap(v.base, w.source),
         }
     }
 }

@@ -1,10 +1,22 @@
-// The VeeR EH1 interrupt controller: what it holds, power-on, soundness, winner, margin and capture. Its registers are in the crates above.
+// The VeeR EH1 interrupt controller: what it holds, power-on, soundness, winner, margin and capture. Its registers are in the crates above. Every call has an
+// answer for every controller, sound or not.
 
-mod calls;
+pub mod calls;
 mod sound;
 mod sources;
 
 use pic_source::Rank;
+
+// What the controller holds beside its sources.
+pub struct Scalars {
+    pub priord: u8,
+    pub base: u32,
+    pub claim: u8,
+    // meipt, meicidpl and meicurpl
+    pub threshold: Rank,
+    pub claimed: Rank,
+    pub current: Rank,
+}
 
 // The controller. The arrays are indexed by source number; places 0 and above the number of sources mean nothing.
 pub struct Controller {
@@ -16,13 +28,7 @@ pub struct Controller {
     pub polarity: [u8; 256],
     pub line: [u8; 256],
     pub latch: [u8; 256],
-    pub priord: u8,
-    pub base: u32,
-    pub claim: u8,
-    // meipt, meicidpl and meicurpl
-    pub threshold: Rank,
-    pub claimed: Rank,
-    pub current: Rank,
+    pub scalars: Scalars,
 }
 
 // A source number and its rank; 0 and rank 0 where there is none.
@@ -38,18 +44,10 @@ pub struct Outcome {
     pub refusal: u8,
 }
 
-// What the margin query answers.
-pub struct Margin {
-    pub margin: i32,
-    pub refusal: u8,
-}
-
-// What a capture hands back: meihap after it, the winner, whether that is above the threshold, and the margin.
-pub struct Capture {
-    pub controller: Controller,
-    pub meihap: u32,
+// One look at the sources: the winner, whether it is above the threshold, the margin, and meihap once it is captured.
+pub struct Look {
     pub winner: Winner,
     pub above: bool,
     pub margin: i32,
-    pub refusal: u8,
+    pub meihap: u32,
 }

@@ -5,13 +5,14 @@ ghost use Rattle.pic.specs.Sound.{sourceSound, initial, sourcesSound, so
 ghost use Rattle.pic.specs.Calls.{powerOnOf};
 use crate::Controller;
 use crate::Outcome;
+use crate::Scalars;
 use pic_source::Rank;
 
 // Whether the values of a source are sound.
-fn source_sound(rank: u8, enable: u8, trigger: u8, polarity: u8, line: u8, latch: u8) -> bool
+fn source_sound(rank: Rank, enable: u8, trigger: u8, polarity: u8, line: u8, latch: u8) -> bool
     ensures { λ r. ⌜ r ≡ sourceSound rank enable trigger polarity line latch ⌝ }
 {
-    (rank <= 15)
+    (rank.0 <= 15)
         & (enable <= 1)
         & (trigger <= 1)
         & (polarity <= 1)
@@ -24,6 +25,14 @@ fn source_sound(rank: u8, enable: u8, trigger: u8, polarity: u8, line: u8, latch
 fn with_sources(n: u8) -> Controller
     ensures { λ r. ⌜ r ≡ initial n ⌝ }
 {
+    let scalars = Scalars {
+        priord: 0,
+        base: 0,
+        claim: 0,
+        threshold: Rank(0),
+        claimed: Rank(0),
+        current: Rank(0),
+    };
     Controller {
         sources: n,
         rank: [0u8; 256],
@@ -32,12 +41,7 @@ fn with_sources(n: u8) -> Controller
         polarity: [0u8; 256],
         line: [0u8; 256],
         latch: [0u8; 256],
-        priord: 0,
-        base: 0,
-        claim: 0,
-        threshold: Rank(0),
-        claimed: Rank(0),
-        current: Rank(0),
+        scalars: scalars,
     }
 }
 
@@ -71,7 +75,7 @@ impl Controller {
             s += 1;
             ok = ok
                 & source_sound(
-                    self.rank[s],
+                    Rank(self.rank[s]),
                     self.enable[s],
                     self.trigger[s],
                     self.polarity[s],
@@ -85,13 +89,14 @@ impl Controller {
     pub fn is_sound(self) -> bool
         ensures { λ r. ⌜ r ≡ soundOf self ⌝ }
     {
+        let v = self.scalars;
         (2 <= self.sources)
-            & (self.priord <= 1)
-            & (self.base % 1024 == 0)
-            & (self.claim <= self.sources)
-            & (self.threshold.0 <= 15)
-            & (self.claimed.0 <= 15)
-            & (self.current.0 <= 15)
+            & (v.priord <= 1)
+            & (v.base % 1024 == 0)
+            & (v.claim <= self.sources)
+            & (v.threshold.0 <= 15)
+            & (v.claimed.0 <= 15)
+            & (v.current.0 <= 15)
             & self.sources_sound()
     }
 }

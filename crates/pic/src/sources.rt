@@ -8,20 +8,20 @@ use crate::Winner;
 use pic_source::Rank;
 use pic_source::sources::pending;
 
-fn eligible(enable: u8, is_pending: bool, rank: u8) -> bool
+fn eligible(enable: u8, is_pending: bool, rank: Rank) -> bool
     ensures { λ r. ⌜ r ≡ isEligible enable «is_pending» rank ⌝ }
 {
-    (enable == 1) & is_pending & (1 <= rank)
+    (enable == 1) & is_pending & (1 <= rank.0)
 }
 
-// A source as it enters the comparison: nobody where it is not eligible.
-fn entry(ok: bool, s: u8, rank: u8) -> Winner
+// A source as it enters the comparison: none where it is not eligible.
+fn entry(ok: bool, s: u8, rank: Rank) -> Winner
     ensures { λ r. ⌜ r ≡ entryOf ok s rank ⌝ }
 {
     if ok {
         Winner {
             source: s,
-            rank: Rank(rank),
+            rank: rank,
         }
     } else {
         Winner {
@@ -32,7 +32,15 @@ fn entry(ok: bool, s: u8, rank: u8) -> Winner
 }
 
 // Source s as it enters the comparison, by its values.
-fn candidate(s: u8, rank: u8, enable: u8, trigger: u8, polarity: u8, line: u8, latch: u8) -> Winner
+fn candidate(
+    s: u8,
+    rank: Rank,
+    enable: u8,
+    trigger: u8,
+    polarity: u8,
+    line: u8,
+    latch: u8,
+) -> Winner
     ensures { λ r. ⌜ r ≡ entryOf (isEligible enable (isPending trigger polarity line latch) rank) s rank ⌝ }
 {
     let is_pending = pending(trigger, polarity, line, latch);
@@ -61,7 +69,7 @@ impl Controller {
             s += 1;
             let e = candidate(
                 s as u8,
-                self.rank[s],
+                Rank(self.rank[s]),
                 self.enable[s],
                 self.trigger[s],
                 self.polarity[s],

@@ -6,14 +6,14 @@ use Rattle.pic_csrs.specs.declared.Csr.{Csr}
 use Rattle.pic_csrs.specs.declared.Csr.the-variants.{Meivt, Meipt, Meicpct, Meicidpl, Meicurpl, Meihap, NoCsr}
 
 -- CSRs: 0xBC8 meivt; 0xBC9 meipt; 0xBCA meicpct; 0xBCB meicidpl; 0xBCC meicurpl; 0xFC8 meihap.
-abbrev pub addressOf : Csr → ℕ
-addressOf Meivt = 0xBC8
-addressOf Meipt = 0xBC9
-addressOf Meicpct = 0xBCA
-addressOf Meicidpl = 0xBCB
-addressOf Meicurpl = 0xBCC
-addressOf Meihap = 0xFC8
-addressOf NoCsr = 0
+abbrev pub csrAddress : Csr → ℕ
+csrAddress Meivt = 0xBC8
+csrAddress Meipt = 0xBC9
+csrAddress Meicpct = 0xBCA
+csrAddress Meicidpl = 0xBCB
+csrAddress Meicurpl = 0xBCC
+csrAddress Meihap = 0xFC8
+csrAddress NoCsr = 0
 
 -- The CSR that has an address. `address-csr` and `csr-address` of the laws say that it is the one of the table.
 unfoldable pub csrAt : ℕ → Csr

@@ -3,27 +3,27 @@ use Prim.Native.Nat.{ℕ, _*_, _/_, _%_}
 use Rattle.pic_source.specs.Ranks.{field, fieldOf, rankOf}
 use Rattle.pic_csrs.specs.declared.Csr.{Csr}
 use Rattle.pic_csrs.specs.declared.Csr.the-variants.{Meivt, Meipt, Meicpct, Meicidpl, Meicurpl, Meihap, NoCsr}
-use Rattle.pic.specs.declared.Controller.{Controller}
+use Rattle.pic.specs.declared.Scalars.{Scalars}
 use Rattle.pic.specs.Fields.{withBase, withThreshold, withClaimed, withCurrent}
-use Rattle.pic.specs.Sources.{captured}
+use Rattle.pic.specs.Sources.{thresholdOf, claimedOf, currentOf}
 use Rattle.pic.specs.Calls.{meihapOf}
 
--- What a CSR reads: meivt, bits 31:10 base; rank fields in bits 3:0, other bits read 0; meicpct reads 0.
-unfoldable pub csrValue : Controller → Csr → ℕ
-csrValue c Meivt = c .base
-csrValue c Meipt = fieldOf (c .priord) (c .threshold) .0
-csrValue c Meicpct = 0
-csrValue c Meicidpl = fieldOf (c .priord) (c .claimed) .0
-csrValue c Meicurpl = fieldOf (c .priord) (c .current) .0
-csrValue c Meihap = meihapOf c
-csrValue c NoCsr = 0
+-- What a CSR reads: meivt, bits 31:10 base; rank fields in bits 3:0, other bits read 0; meicpct reads 0; meihap = base + 4 × claim.
+unfoldable pub csrValue : Scalars → Csr → ℕ
+csrValue s Meivt = s .base
+csrValue s Meipt = fieldOf (s .priord) (thresholdOf s) .0
+csrValue s Meicpct = 0
+csrValue s Meicidpl = fieldOf (s .priord) (claimedOf s) .0
+csrValue s Meicurpl = fieldOf (s .priord) (currentOf s) .0
+csrValue s Meihap = meihapOf (s .base) (s .claim)
+csrValue s NoCsr = 0
 
--- What a CSR write changes: other bits are dropped; a write of meicpct captures; meihap is read only.
-unfoldable pub csrWritten : Controller → Csr → ℕ → Controller
-csrWritten c Meivt v = withBase c (v / 1024 * 1024)
-csrWritten c Meipt v = withThreshold c (rankOf (c .priord) (field (v % 16)))
-csrWritten c Meicpct v = captured c
-csrWritten c Meicidpl v = withClaimed c (rankOf (c .priord) (field (v % 16)))
-csrWritten c Meicurpl v = withCurrent c (rankOf (c .priord) (field (v % 16)))
-csrWritten c Meihap v = c
-csrWritten c NoCsr v = c
+-- What a CSR write changes: other bits are dropped; meihap is read only. A write of meicpct captures, which `csrWriteOf` says.
+unfoldable pub csrWritten : Scalars → Csr → ℕ → Scalars
+csrWritten s Meivt v = withBase s (v / 1024 * 1024)
+csrWritten s Meipt v = withThreshold s (rankOf (s .priord) (field (v % 16)))
+csrWritten s Meicpct v = s
+csrWritten s Meicidpl v = withClaimed s (rankOf (s .priord) (field (v % 16)))
+csrWritten s Meicurpl v = withCurrent s (rankOf (s .priord) (field (v % 16)))
+csrWritten s Meihap v = s
+csrWritten s NoCsr v = s

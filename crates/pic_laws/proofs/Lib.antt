@@ -1,4 +1,5 @@
--- Laws of the calls of the controller, and bench points computed from its rules.
+-- Laws of the controller's calls, for the layers above.
 pub mod Kept
 pub mod Captures
-pub mod Points
+pub mod Sources
+pub mod Values

@@ -1,7 +1,7 @@
--- Words of bits: bit Y of a pending word, and what a sample does to each line.
-use Prim.Native.Nat.{ℕ, zero, suc, _+_, _-_, _*_, _/_, _^_, _≤_, _<_}
+-- Words of bits: bit y of a word, and what is at each place once a word of values is taken.
+use Prim.Native.Nat.{ℕ, zero, suc, _+_, _-_, _/_, _^_, _≤_, _<_}
 use mathlib.Core.Path.{_≡_, refl, sym, ap, _∙_}
-use mathlib.Core.Bool.{Bool, true, false, cond, _&&_}
+use mathlib.Core.Bool.{Bool, true, false, cond}
 use mathlib.Core.List.{List}
 use mathlib.Core.Logic.{_⊎_, inl, inr, ⊎-elim}
 use native.Mathlib.Numerals.{add-one}
@@ -12,10 +12,10 @@ use lib.Seq.{getD-set-same, getD-set-other}
 use lib.Pow.{pow-add, pow-pos}
 use Rattle.pic.specs.declared.Controller.{Controller}
 use Rattle.pic_source.specs.Sources.{isSource}
-use Rattle.pic.specs.Sources.{lineAt, pendingAt}
-use Rattle.pic_registers.specs.Registers.{bitOf, linesTo, sampled, joinOf, pendingTo, pendingWord}
+use Rattle.pic.specs.Sources.{lineAt, latchAt}
+use Rattle.pic_registers.specs.Words.{bitOf, joinOf, wordTo, sourceOf, placesTo, placesOfWord}
+use Rattle.pic_registers.specs.Registers.{latchSampled, sampled, pendingBit, pendingWord}
 use Rattle.pic_source.proofs.Bools.{never, eq-cases}
-use Rattle.pic.proofs.Soundness.{Sound}
 use Rattle.pic_source.proofs.Ranges.{source-range}
 use Rattle.pic_registers.proofs.Turns.{join-lt}
 
@@ -40,73 +40,83 @@ unfolding joinOf
 join-below w n y true h = let e : n ≡ y + suc (n - suc y) = omega arith in rw e (bit-below w y (n - suc y))
 join-below w n y false h = refl
 
-pending-lt : (c : Controller) (x n : ℕ) → pendingTo c x n < 2 ^ n
-unfolding pendingTo
-pending-lt c x zero = omega arith
-pending-lt c x (suc n) =
-    rw add-one at (join-lt (pendingTo c x n) n (isSource (c .sources) (32 * x + n) && pendingAt c (32 * x + n)) (pending-lt c x n))
+-- A word made of n bits has n bits, and bit y of it is the one that is asked for.
+pub word-lt : (on : ℕ → Bool) (n : ℕ) → wordTo on n < 2 ^ n
+unfolding wordTo
+word-lt on zero = omega arith
+word-lt on (suc n) = rw add-one at (join-lt (wordTo on n) n (on n) (word-lt on n))
 
-pending-bits : (c : Controller) (x n y : ℕ) → y < n
-    → bitOf (pendingTo c x n) y ≡ cond (isSource (c .sources) (32 * x + y) && pendingAt c (32 * x + y)) 1 0
-unfolding pendingTo
-pending-bits c x zero y h = absurd (omega arith)
-pending-bits c x (suc n) y h = go (λ l. pending-bits c x n y l) (eq-cases y n)
+pub bit-of-word : (on : ℕ → Bool) (n y : ℕ) → y < n → bitOf (wordTo on n) y ≡ cond (on y) 1 0
+unfolding wordTo
+bit-of-word on zero y h = absurd (omega arith)
+bit-of-word on (suc n) y h = go (λ l. bit-of-word on n y l) (eq-cases y n)
   where
-    go : (y < n → bitOf (pendingTo c x n) y ≡ cond (isSource (c .sources) (32 * x + y) && pendingAt c (32 * x + y)) 1 0) → (y ≡ n) ⊎ (y ≡ n → ⊥)
-        → bitOf (joinOf (pendingTo c x n) n (isSource (c .sources) (32 * x + n) && pendingAt c (32 * x + n))) y
-        ≡ cond (isSource (c .sources) (32 * x + y) && pendingAt c (32 * x + y)) 1 0
-    go i (inl e) = rw e (join-at (pendingTo c x n) n (isSource (c .sources) (32 * x + n) && pendingAt c (32 * x + n)) (pending-lt c x n))
-    go i (inr d) =
-        join-below (pendingTo c x n) n y (isSource (c .sources) (32 * x + n) && pendingAt c (32 * x + n)) (omega (arith, d)) ∙ i (omega (arith, d))
+    go : (y < n → bitOf (wordTo on n) y ≡ cond (on y) 1 0) → (y ≡ n) ⊎ (y ≡ n → ⊥) → bitOf (joinOf (wordTo on n) n (on n)) y ≡ cond (on y) 1 0
+    go i (inl e) = rw e (join-at (wordTo on n) n (on n) (word-lt on n))
+    go i (inr d) = join-below (wordTo on n) n y (on n) (omega (arith, d)) ∙ i (omega (arith, d))
 
 -- Bit Y of meipX is the pending bit of source 32 × X + Y, and 0 where that is no source.
-pub pending-bit : (c : Controller) (x y : ℕ) → y < 32
-    → bitOf (pendingWord c x) y ≡ cond (isSource (c .sources) (32 * x + y) && pendingAt c (32 * x + y)) 1 0
-pending-bit c x y h = pending-bits c x 32 y h
+pub pending-bit : (c : Controller) (x y : ℕ) → y < 32 → bitOf (pendingWord c x) y ≡ cond (pendingBit c x y) 1 0
+pending-bit c x y h = bit-of-word (pendingBit c x) 32 y h
 
-module _ (n : ℕ) (line : List ℕ) (x v : ℕ) where
-  pub lines-length : (k : ℕ) → length (linesTo n line x v k) ≡ length line
-  unfolding linesTo
-  lines-length zero = refl
-  lines-length (suc k) = go (isSource n (32 * x + k)) (lines-length k)
+-- An array whose places of word x take values.
+module _ (n : ℕ) (l : List ℕ) (x : ℕ) (f : ℕ → ℕ) where
+  places-to-length : (k : ℕ) → length (placesTo n l x f k) ≡ length l
+  unfolding placesTo
+  places-to-length zero = refl
+  places-to-length (suc k) = go (isSource n (sourceOf x k)) (places-to-length k)
     where
-      go : (t : Bool) → length (linesTo n line x v k) ≡ length line
-          → length (cond t (set (linesTo n line x v k) (32 * x + k) (bitOf v k)) (linesTo n line x v k)) ≡ length line
+      go : (t : Bool) → length (placesTo n l x f k) ≡ length l
+          → length (cond t (set (placesTo n l x f k) (sourceOf x k) (f k)) (placesTo n l x f k)) ≡ length l
       go true i = simp length-set i
       go false i = i
 
-  sampled-to : (k y : ℕ) → y < k → n < length line → isSource n (32 * x + y) ≡ true → getD (linesTo n line x v k) (32 * x + y) 0 ≡ bitOf v y
-  unfolding linesTo
-  sampled-to zero y h l e = absurd (omega arith)
-  sampled-to (suc k) y h l e = go (λ b. sampled-to k y b l e) (eq-cases y k) (isSource n (32 * x + k)) refl
+  in-to : (k y : ℕ) → y < k → n < length l → isSource n (sourceOf x y) ≡ true → getD (placesTo n l x f k) (sourceOf x y) 0 ≡ f y
+  unfolding placesTo
+  in-to zero y h b e = absurd (omega arith)
+  in-to (suc k) y h b e = go (λ a. in-to k y a b e) (eq-cases y k) (isSource n (sourceOf x k)) refl
     where
-      go : (y < k → getD (linesTo n line x v k) (32 * x + y) 0 ≡ bitOf v y) → (y ≡ k) ⊎ (y ≡ k → ⊥) → (t : Bool) → isSource n (32 * x + k) ≡ t
-          → getD (cond t (set (linesTo n line x v k) (32 * x + k) (bitOf v k)) (linesTo n line x v k)) (32 * x + y) 0 ≡ bitOf v y
-      go i (inl z) true f =
-          rw z (getD-set-same (linesTo n line x v k) (32 * x + k) (bitOf v k) 0 (omega (arith, lines-length k, source-range n (32 * x + k) f .1)))
-      go i (inl z) false f = never (sym f ∙ ap (λ (j : ℕ). isSource n (32 * x + j)) (sym z) ∙ e)
-      go i (inr d) true f =
-          getD-set-other (linesTo n line x v k) (32 * x + k) (32 * x + y) (bitOf v k) 0 (λ z. d (omega arith)) ∙ i (omega (arith, d))
-      go i (inr d) false f = i (omega (arith, d))
+      go : (y < k → getD (placesTo n l x f k) (sourceOf x y) 0 ≡ f y) → (y ≡ k) ⊎ (y ≡ k → ⊥) → (t : Bool) → isSource n (sourceOf x k) ≡ t
+          → getD (cond t (set (placesTo n l x f k) (sourceOf x k) (f k)) (placesTo n l x f k)) (sourceOf x y) 0 ≡ f y
+      go i (inl z) true t =
+          rw z (getD-set-same (placesTo n l x f k) (sourceOf x k) (f k) 0 (omega (arith, places-to-length k, source-range n (sourceOf x k) t .1)))
+      go i (inl z) false t = never (sym t ∙ ap (λ (j : ℕ). isSource n (sourceOf x j)) (sym z) ∙ e)
+      go i (inr d) true t = getD-set-other (placesTo n l x f k) (sourceOf x k) (sourceOf x y) (f k) 0 (λ z. d (omega arith)) ∙ i (omega (arith, d))
+      go i (inr d) false t = i (omega (arith, d))
 
-  other-to : (k s : ℕ) → k ≤ 32 → (s / 32 ≡ x → ⊥) ⊎ (isSource n s ≡ false) → getD (linesTo n line x v k) s 0 ≡ getD line s 0
-  unfolding linesTo
-  other-to zero s h o = refl
-  other-to (suc k) s h o = go (isSource n (32 * x + k)) refl (other-to k s (omega arith) o)
+  out-to : (k s : ℕ) → k ≤ 32 → (s / 32 ≡ x → ⊥) ⊎ (isSource n s ≡ false) → getD (placesTo n l x f k) s 0 ≡ getD l s 0
+  unfolding placesTo
+  out-to zero s h o = refl
+  out-to (suc k) s h o = go (isSource n (sourceOf x k)) refl (out-to k s (omega arith) o)
     where
-      apart : isSource n (32 * x + k) ≡ true → s ≡ 32 * x + k → ⊥
-      apart f z = ⊎-elim (λ d. d (omega arith)) (λ g. never (sym g ∙ ap (isSource n) z ∙ f)) o
+      apart : isSource n (sourceOf x k) ≡ true → s ≡ sourceOf x k → ⊥
+      apart t z = ⊎-elim (λ d. d (omega arith)) (λ g. never (sym g ∙ ap (isSource n) z ∙ t)) o
 
-      go : (t : Bool) → isSource n (32 * x + k) ≡ t → getD (linesTo n line x v k) s 0 ≡ getD line s 0
-          → getD (cond t (set (linesTo n line x v k) (32 * x + k) (bitOf v k)) (linesTo n line x v k)) s 0 ≡ getD line s 0
-      go true f i = getD-set-other (linesTo n line x v k) (32 * x + k) s (bitOf v k) 0 (apart f) ∙ i
-      go false f i = i
+      go : (t : Bool) → isSource n (sourceOf x k) ≡ t → getD (placesTo n l x f k) s 0 ≡ getD l s 0
+          → getD (cond t (set (placesTo n l x f k) (sourceOf x k) (f k)) (placesTo n l x f k)) s 0 ≡ getD l s 0
+      go true t i = getD-set-other (placesTo n l x f k) (sourceOf x k) s (f k) 0 (apart t) ∙ i
+      go false t i = i
 
--- Bit Y of word X becomes the line of source 32 × X + Y.
-pub line-sampled : (c : Controller) (x v y : ℕ) → Sound c → y < 32 → isSource (c .sources) (32 * x + y) ≡ true
-    → lineAt (sampled c x v) (32 * x + y) ≡ bitOf v y
-line-sampled c x v y h b e = sampled-to (c .sources) (c .line) x v 32 y b (h .inRange .columns .4 .long) e
+  -- A source of the word has its value,
+  pub place-in : (y : ℕ) → y < 32 → n < length l → isSource n (sourceOf x y) ≡ true → getD (placesOfWord n l x f) (sourceOf x y) 0 ≡ f y
+  place-in y h b e = in-to 32 y h b e
 
--- No other line changes: none of another word, and none of no source.
-pub line-kept : (c : Controller) (x v s : ℕ) → (s / 32 ≡ x → ⊥) ⊎ (isSource (c .sources) s ≡ false) → lineAt (sampled c x v) s ≡ lineAt c s
-line-kept c x v s o = other-to (c .sources) (c .line) x v 32 s (omega arith) o
+  -- and no other place changes: none of another word, and none of no source.
+  pub place-out : (s : ℕ) → (s / 32 ≡ x → ⊥) ⊎ (isSource n s ≡ false) → getD (placesOfWord n l x f) s 0 ≡ getD l s 0
+  place-out s o = out-to 32 s (omega arith) o
+
+-- A sample: bit Y of word X becomes the line of source 32 × X + Y, and its latch follows. No other line and no other latch changes.
+module _ (c : Controller) (x v : ℕ) where
+  pub line-sampled : (y : ℕ) → y < 32 → c .sources < length (c .line) → isSource (c .sources) (sourceOf x y) ≡ true
+      → lineAt (sampled c x v) (sourceOf x y) ≡ bitOf v y
+  line-sampled y = place-in (c .sources) (c .line) x (bitOf v) y
+
+  pub line-kept : (s : ℕ) → (s / 32 ≡ x → ⊥) ⊎ (isSource (c .sources) s ≡ false) → lineAt (sampled c x v) s ≡ lineAt c s
+  line-kept = place-out (c .sources) (c .line) x (bitOf v)
+
+  pub latch-sampled : (y : ℕ) → y < 32 → c .sources < length (c .latch) → isSource (c .sources) (sourceOf x y) ≡ true
+      → latchAt (sampled c x v) (sourceOf x y) ≡ latchSampled c x v y
+  latch-sampled y = place-in (c .sources) (c .latch) x (latchSampled c x v) y
+
+  pub latch-kept : (s : ℕ) → (s / 32 ≡ x → ⊥) ⊎ (isSource (c .sources) s ≡ false) → latchAt (sampled c x v) s ≡ latchAt c s
+  latch-kept = place-out (c .sources) (c .latch) x (latchSampled c x v)

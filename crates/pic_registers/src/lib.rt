@@ -7,9 +7,6 @@ mod values;
 ghost use mathlib.Core.Path.{_≡_};
 ghost use mathlib.Core.Bool.{true};
 ghost use Rattle.pic_registers.specs.Offsets.{isRegister};
-ghost use Rattle.pic.specs.Sources.{settle};
-ghost use Rattle.pic.specs.Sound.{soundOf};
-ghost use Rattle.pic.specs.Calls.{handed, refused};
 ghost use Rattle.pic_registers.specs.Registers.{readOf, writtenOf};
 ghost use Rattle.pic_registers.specs.Calls.{sampleOf, loadOf, storeOf};
 use crate::decoding::offset_refusal;
@@ -38,26 +35,6 @@ pub enum Register {
     NoRegister,
 }
 
-fn refuse(c: Controller, q: u8) -> Outcome
-    ensures { λ r. ⌜ r ≡ refused c q ⌝ }
-{
-    Outcome {
-        controller: c,
-        answer: 0,
-        refusal: q,
-    }
-}
-
-fn accept(c: Controller, a: u32) -> Outcome
-    ensures { λ r. ⌜ r ≡ handed c a ⌝ }
-{
-    Outcome {
-        controller: c,
-        answer: a,
-        refusal: 0,
-    }
-}
-
 // What a register reads.
 fn read(c: Controller, r: Register) -> u32
     requires { ⌜ isRegister (c .sources) r ≡ true ⌝ }
@@ -67,17 +44,16 @@ fn read(c: Controller, r: Register) -> u32
         Register::Meipl(s) => field_at(c, s),
         Register::Meip(x) => pending_word(c, x as usize),
         Register::Meie(s) => enable_at(c, s),
-        Register::Mpiccfg => c.priord as u32,
+        Register::Mpiccfg => c.scalars.priord as u32,
         Register::Meigwctrl(s) => gateway_at(c, s),
         Register::Meigwclr(_) => 0,
         Register::NoRegister => 0,
     }
 }
 
-// A store of v to a register of a sound controller.
+// A store of v to a register.
 fn write(c: Controller, r: Register, v: u32) -> Controller
-    requires { ⌜ (soundOf c ≡ true) × (isRegister (c .sources) r ≡ true) ⌝ }
-    ensures { λ d. ⌜ d ≡ settle (writtenOf c r v) ⌝ }
+    ensures { λ d. ⌜ d ≡ writtenOf c r v ⌝ }
 {
     match r {
         Register::Meipl(s) => write_rank(c, s, v),
@@ -94,41 +70,32 @@ fn write(c: Controller, r: Register, v: u32) -> Controller
 pub fn sample(c: Controller, x: u32, v: u32) -> Outcome
     ensures { λ r. ⌜ r ≡ sampleOf c x v ⌝ }
 {
-    if !c.is_sound() {
-        return refuse(c, 8);
-    }
     if 7 < x {
-        return refuse(c, 9);
+        return c.refuse(9);
     }
-    accept(take_lines(c, x as usize, v), 0)
+    take_lines(c, x as usize, v).accept(0)
 }
 
 // A load of the word at an offset.
 pub fn load(c: Controller, offset: u32) -> Outcome
     ensures { λ r. ⌜ r ≡ loadOf c offset ⌝ }
 {
-    if !c.is_sound() {
-        return refuse(c, 8);
-    }
     let q = offset_refusal(offset);
     if q != 0 {
-        return refuse(c, q);
+        return c.refuse(q);
     }
     let a = read(c, register_at(c.sources, offset));
-    accept(c, a)
+    c.accept(a)
 }
 
 // A store of the word v at an offset.
 pub fn store(c: Controller, offset: u32, v: u32) -> Outcome
     ensures { λ r. ⌜ r ≡ storeOf c offset v ⌝ }
 {
-    if !c.is_sound() {
-        return refuse(c, 8);
-    }
     let q = offset_refusal(offset);
     if q != 0 {
-        return refuse(c, q);
+        return c.refuse(q);
     }
     let r = register_at(c.sources, offset);
-    accept(write(c, r, v), 0)
+    write(c, r, v).accept(0)
 }

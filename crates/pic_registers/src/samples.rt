@@ -1,11 +1,9 @@
 // Lines sampled a word at a time, and the words of pending bits.
 
 ghost use mathlib.Core.Path.{_≡_};
-ghost use mathlib.Core.Bool.{true};
 ghost use Prim.Native.Nat.{_<_, _^_};
-ghost use Rattle.pic.specs.Sources.{settle};
-ghost use Rattle.pic.specs.Sound.{soundOf};
-ghost use Rattle.pic_registers.specs.Registers.{bitOf, sampled, joinOf, pendingWord};
+ghost use Rattle.pic_registers.specs.Words.{bitOf, joinOf};
+ghost use Rattle.pic_registers.specs.Registers.{sampled, pendingWord};
 use pic::Controller;
 use pic_source::sources::is_source;
 use pic_source::sources::latch_after;
@@ -29,8 +27,8 @@ fn join(w: u32, y: u32, on: bool) -> u32
 
 // The lines of word x take the bits of v, and each latch follows its line.
 pub(crate) fn take_lines(mut c: Controller, x: usize, v: u32) -> Controller
-    requires { ⌜ (x < 8) × (soundOf c ≡ true) ⌝ }
-    ensures { λ d. ⌜ d ≡ settle (sampled c x v) ⌝ }
+    requires { ⌜ x < 8 ⌝ }
+    ensures { λ d. ⌜ d ≡ sampled c x v ⌝ }
 {
     let n = c.sources;
     let mut y: u32 = 0;

@@ -15,9 +15,9 @@ use pic_source::sources::latch_after;
 
 // The field of source s.
 pub(crate) fn field_at(c: Controller, s: u8) -> u32
-    ensures { λ a. ⌜ a ≡ fieldOf (c .priord) (rankAt c s) .0 ⌝ }
+    ensures { λ a. ⌜ a ≡ fieldOf (c .scalars .priord) (rankAt c s) .0 ⌝ }
 {
-    let f = to_field(c.priord, Rank(c.rank[s as usize]));
+    let f = to_field(c.scalars.priord, Rank(c.rank[s as usize]));
     f.0 as u32
 }
 
@@ -54,7 +54,7 @@ pub(crate) fn settle_at(mut c: Controller, s: u8) -> Controller
 pub(crate) fn write_rank(mut c: Controller, s: u8, v: u32) -> Controller
     ensures { λ d. ⌜ d ≡ writtenOf c (Meipl s) v ⌝ }
 {
-    let rank = to_rank(c.priord, Field((v % 16) as u8));
+    let rank = to_rank(c.scalars.priord, Field((v % 16) as u8));
     c.rank[s as usize] = rank.0;
     c
 }
@@ -69,13 +69,15 @@ pub(crate) fn write_enable(mut c: Controller, s: u8, v: u32) -> Controller
 pub(crate) fn write_priord(mut c: Controller, v: u32) -> Controller
     ensures { λ d. ⌜ d ≡ writtenOf c Mpiccfg v ⌝ }
 {
-    c.priord = (v % 2) as u8;
+    let mut s = c.scalars;
+    s.priord = (v % 2) as u8;
+    c.scalars = s;
     c
 }
 
 // The type and the polarity of source s, and its latch where that makes its line active.
 pub(crate) fn write_gateway(mut c: Controller, s: u8, v: u32) -> Controller
-    ensures { λ d. ⌜ d ≡ settleAt (writtenOf c (Meigwctrl s) v) s ⌝ }
+    ensures { λ d. ⌜ d ≡ writtenOf c (Meigwctrl s) v ⌝ }
 {
     let i = s as usize;
     c.trigger[i] = (v / 2 % 2) as u8;
@@ -85,7 +87,7 @@ pub(crate) fn write_gateway(mut c: Controller, s: u8, v: u32) -> Controller
 
 // The latch of source s cleared, and set again where its line is active.
 pub(crate) fn clear_latch(mut c: Controller, s: u8) -> Controller
-    ensures { λ d. ⌜ d ≡ settleAt (writtenOf c (Meigwclr s) 0) s ⌝ }
+    ensures { λ d. ⌜ d ≡ writtenOf c (Meigwclr s) 0 ⌝ }
 {
     c.latch[s as usize] = 0;
     settle_at(c, s)

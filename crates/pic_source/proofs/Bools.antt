@@ -1,4 +1,4 @@
--- Tests joined by `and`, `or` and `all`, taken apart and put together.
+-- Tests joined by `and`, `or` and `allHold`, taken apart and put together.
 use Prim.Native.Nat.{ℕ, zero, suc, _≤_, _<_}
 use mathlib.Core.Path.{_≡_, refl}
 use mathlib.Core.Bool.{Bool, true, false, _&&_, _||_}
@@ -8,7 +8,7 @@ use native.Mathlib.Omega.{arith}
 use lib.ListN.{getD}
 use lib.Dec.{leb, eqb}
 use borrow.Author.Tests.{leb-true, leb-false, eqb-true, eqb-false}
-use Rattle.pic_source.specs.Tests.{all, allFrom}
+use Rattle.pic_source.specs.Tests.{allHold, allFrom}
 
 pub never : {A : Type 0} → false ≡ true → A
 never e = let z : _≡_ {A = ℕ} 0 1 = cc in absurd (omega arith)
@@ -49,7 +49,7 @@ all-from a (b ∷ bs) e =
     at p r (suc i) = r i
 
 -- Test i of a list whose tests all hold.
-pub all-at : (bs : List Bool) → all bs ≡ true → (i : ℕ) → getD bs i true ≡ true
+pub all-at : (bs : List Bool) → allHold bs ≡ true → (i : ℕ) → getD bs i true ≡ true
 all-at [] e i = refl
 all-at (b ∷ bs) e zero = all-from b bs e .0
 all-at (b ∷ bs) e (suc i) = all-from b bs e .1 i

@@ -7,6 +7,6 @@ abbrev pub allFrom : Bool → List Bool → Bool
 allFrom a [] = a
 allFrom a (b ∷ bs) = allFrom (a && b) bs
 
-abbrev pub all : List Bool → Bool
-all [] = true
-all (b ∷ bs) = allFrom b bs
+abbrev pub allHold : List Bool → Bool
+allHold [] = true
+allHold (b ∷ bs) = allFrom b bs

@@ -4,4 +4,3 @@ pub mod Signs
 pub mod Printing
 pub mod Whole
 pub mod Reading
-pub mod Points

@@ -11,18 +11,21 @@ use Rattle.digits.specs.Digits.{decimal}
 use Rattle.digits.proofs.Meaning.{digits-length}
 use Rattle.digits.proofs.Pieces.{Stands, two, stands-as}
 use Rattle.event.specs.Event.{kindOf}
+use Rattle.event.proofs.Laws.{kinds-two-digits}
 use Rattle.playback.specs.Text.{ascii}
+use Rattle.record.specs.Record.{mostEvents}
+use Rattle.playback.specs.Size.{eventLineSize}
 use Rattle.playback.specs.Print.{eventLine, eventLines, KnownKinds}
 
 -- A number below a power of ten has at most so many digits.
 pub digits-of : (n k : ℕ) → n < 10 ^ suc k → length (decimal n) ≤ suc k
 digits-of n k h = digits-length 10 1 20 n k (omega arith) h (omega arith)
 
--- The line of an event of an accepted record has at most 22 bytes.
-pub line-length : (i k a r : ℕ) → i < 10000 → k < 10 → a < 4294967296 → r < 256 → length (eventLine i k a r) ≤ 22
+-- The line of an event of an accepted record has at most so many bytes.
+pub line-length : (i k a r : ℕ) → i < 10000 → k < 100 → a < 4294967296 → r < 256 → length (eventLine i k a r) ≤ eventLineSize
 unfolding ascii
 line-length i k a r hi hk ha hr =
-    simp (length-append) (omega (arith, digits-of i 3 hi, digits-of k 0 hk, digits-of a 9 (omega arith), digits-of r 2 (omega arith)))
+    simp (length-append) (omega (arith, digits-of i 3 hi, digits-of k 1 hk, digits-of a 9 (omega arith), digits-of r 2 (omega arith)))
 
 -- One more line.
 pub lines-more : (j i : ℕ) (hs ans rs : List ℕ) → i < length hs → i < length ans → i < length rs
@@ -43,18 +46,18 @@ lines-more j (suc i) (x ∷ hs) (a ∷ ans) (r ∷ rs) h₁ h₂ h₃ =
 
 -- What is known while the lines are put: i of them stand.
 pub record Printed (out₀ : List ℕ) (at : ℕ) (hs ans rs out : List ℕ) (next i : ℕ) : Type 0 where
-  pub few : length hs ≤ 4000
+  pub few : length hs ≤ mostEvents
   pub answers : length hs ≤ length ans
   pub refusals : length hs ≤ length rs
-  pub room : at + 22 * length hs ≤ length out₀
+  pub room : at + eventLineSize * length hs ≤ length out₀
   pub kinds : KnownKinds hs
   pub same : length out ≡ length out₀
   pub turn : i ≤ length hs
-  pub most : next ≤ at + 22 * i
+  pub most : next ≤ at + eventLineSize * i
   pub stands : Stands out₀ at (eventLines 0 (take i hs) ans rs) next out
 
 pub none-printed : (out : List ℕ) (at : ℕ) (hs ans rs : List ℕ)
-    → (length hs ≤ 4000) × (length hs ≤ length ans) × (length hs ≤ length rs) × (at + 22 * length hs ≤ length out) × KnownKinds hs
+    → (length hs ≤ mostEvents) × (length hs ≤ length ans) × (length hs ≤ length rs) × (at + eventLineSize * length hs ≤ length out) × KnownKinds hs
     → Printed out at hs ans rs out at 0
 unfolding eventLines
 none-printed out at hs ans rs (a, b, c, d, e) =
@@ -72,9 +75,9 @@ none-printed out at hs ans rs (a, b, c, d, e) =
 
 module _ {out₀ : List ℕ} {at : ℕ} {hs ans rs out : List ℕ} {next i : ℕ} (p : Printed out₀ at hs ans rs out next i) (h : i < length hs) where
   -- The next line is short, and there is room for it.
-  short : {k a r : ℕ} → k ≡ kindOf (getD hs i 0) → a < 4294967296 → r < 256 → length (eventLine i k a r) ≤ 22
+  short : {k a r : ℕ} → k ≡ kindOf (getD hs i 0) → a < 4294967296 → r < 256 → length (eventLine i k a r) ≤ eventLineSize
   short {k} {a} {r} e ha hr =
-      let hk : k < 10 = rw e (p .kinds i h) in
+      let hk : k < 100 = omega (arith, e, p .kinds i h, kinds-two-digits) in
       let hi : i < 10000 = omega (arith, p .few) in
       line-length i k a r hi hk ha hr
 
@@ -88,9 +91,11 @@ module _ {out₀ : List ℕ} {at : ℕ} {hs ans rs out : List ℕ} {next i : ℕ
       let ha′ : i < length ans = omega (arith, p .answers) in
       let hr′ : i < length rs = omega (arith, p .refusals) in
       let line = eventLine i k (getD ans i 0) (getD rs i 0) in
-      let l : length line ≤ 22 = short e ha hr in
+      let l : length line ≤ eventLineSize = short e ha hr in
       let same′ : length out′ ≡ length out = rw (stands .1) (length-sets out next line) in
-      let same-line : eventLines 0 (take i hs) ans rs ++ eventLine (0 + i) (kindOf (getD hs i 0)) (getD ans i 0) (getD rs i 0) ≡ eventLines 0 (take i hs) ans rs ++ line = rw (zero-add i, e) in
+      let before = eventLines 0 (take i hs) ans rs in
+      let line-of : ℕ → ℕ → List ℕ = λ j x. before ++ eventLine j x (getD ans i 0) (getD rs i 0) in
+      let same-line : line-of (0 + i) (kindOf (getD hs i 0)) ≡ line-of i k = ap (λ (j : ℕ). line-of j (kindOf (getD hs i 0))) (zero-add i) ∙ ap (λ (x : ℕ). line-of i x) (sym e) in
       let more = two out₀ at (eventLines 0 (take i hs) ans rs) line (p .stands) stands in
       record {
         few = p .few;
@@ -106,10 +111,10 @@ module _ {out₀ : List ℕ} {at : ℕ} {hs ans rs out : List ℕ} {next i : ℕ
 
 -- All of them.
 pub all-printed : {out₀ : List ℕ} {at : ℕ} {hs ans rs out : List ℕ} {next i : ℕ} → Printed out₀ at hs ans rs out next i → length hs ≤ i
-    → (next ≡ at + length (eventLines 0 hs ans rs)) × ((out ≡ sets out₀ at (eventLines 0 hs ans rs)) × (next ≤ at + 22 * length hs))
+    → (next ≡ at + length (eventLines 0 hs ans rs)) × ((out ≡ sets out₀ at (eventLines 0 hs ans rs)) × (next ≤ at + eventLineSize * length hs))
 all-printed {out₀} {at} {hs} {ans} {rs} {out} {next} {i} p h =
     let stands = stands-as out₀ at (ap (λ (l : List ℕ). eventLines 0 l ans rs) (take-all i hs h)) (p .stands) in
-    let few : next ≤ at + 22 * length hs = omega (arith, p .most, p .turn) in
+    let few : next ≤ at + eventLineSize * length hs = omega (arith, p .most, p .turn) in
     (stands .0, (stands .1, few))
 
 -- Lines look at as many answers and refusals as there are heads.

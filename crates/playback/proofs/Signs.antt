@@ -32,22 +32,22 @@ size-fits (pos n) h = record { fits = omega (arith, h .sfits) }
 size-fits (negsuc n) h = record { fits = omega (arith, h .sfits) }
 
 -- Below 0 it is taken from 0.
-pub record Turned (z : ℤ) : Type 0 where
+pub record Negated (z : ℤ) : Type 0 where
   pub fits : SFits w64 (pos 0 -ℤ Wide z)
   pub is : toZ w64 (ofZ w64 (pos 0 -ℤ Wide z)) ≡ pos (natAbs z)
 
-pub turned : (z : ℤ) → SFits w32 z → ltZ (Wide z) (pos 0) ≡ true → Turned z
-turned z h e = go z h (rw (← widened z h) e) (widened z h)
+pub negated : (z : ℤ) → SFits w32 z → ltZ (Wide z) (pos 0) ≡ true → Negated z
+negated z h e = go z h (rw (← widened z h) e) (widened z h)
   where
-    go : (z : ℤ) → SFits w32 z → ltZ z (pos 0) ≡ true → Wide z ≡ z → Turned z
+    go : (z : ℤ) → SFits w32 z → ltZ z (pos 0) ≡ true → Wide z ≡ z → Negated z
     go (pos n) h e w = absurd (omega (arith, ltb-true n 0 e))
     go (negsuc n) h e w =
         let f : SFits w64 (pos (0 + suc n)) = record { sfits = omega (arith, h .sfits) } in
         record { fits = rw w f; is = rw w (toZ-ofZ {w = w64} {z = pos (0 + suc n)} f ∙ ap pos (zero-add (suc n))) }
 
 -- Else it is that already.
-pub straight : (z : ℤ) → SFits w32 z → ltZ (Wide z) (pos 0) ≡ false → Wide z ≡ pos (natAbs z)
-straight z h e = widened z h ∙ go z (rw (← widened z h) e)
+pub not-negated : (z : ℤ) → SFits w32 z → ltZ (Wide z) (pos 0) ≡ false → Wide z ≡ pos (natAbs z)
+not-negated z h e = widened z h ∙ go z (rw (← widened z h) e)
   where
     go : (z : ℤ) → ltZ z (pos 0) ≡ false → z ≡ pos (natAbs z)
     go (pos n) e = refl

@@ -15,71 +15,75 @@ use lib.IntN.{pos, natAbs}
 use lib.Signed.{ltZ}
 use Rattle.buffers.proofs.Stores.{sets-filled}
 use Rattle.buffers.specs.Filled.{filled}
-use Rattle.pic.specs.declared.Margin.{Margin}
+use Rattle.pic_source.specs.declared.Rank.{Rank}
+use Rattle.pic.specs.Calls.{currentRank}
+use Rattle.handlers.specs.declared.Margin.{Margin}
 use Rattle.handlers.specs.declared.Machine.{Machine}
-use Rattle.handlers.specs.Service.{marginAnswer}
+use Rattle.handlers.specs.Calls.{marginAnswer}
 use Rattle.digits.specs.Digits.{decimal}
-use Rattle.digits.proofs.Spelling.{digits-most}
+use Rattle.digits.proofs.Digits.{digits-most}
 use Rattle.digits.proofs.Pieces.{Stands, two, stands-as}
 use Rattle.playback.specs.Text.{ascii, minus}
+use Rattle.record.specs.Record.{mostEvents}
+use Rattle.playback.specs.Size.{firstLineSize, eventLineSize, lastLineSize, printSize}
 use Rattle.playback.specs.Print.{firstLine, eventLines, lastLine, endLine, refusedLine, playedLines}
 
-twenty : (n : ℕ) → length (decimal n) ≤ 20
-twenty n = digits-most 10 1 20 n
+number-length : (n : ℕ) → length (decimal n) ≤ 20
+number-length n = digits-most 10 1 20 n
 
-one : (below : Bool) → length (minus below) ≤ 1
+sign-length : (below : Bool) → length (minus below) ≤ 1
 unfolding ascii
-one true = omega arith
-one false = omega arith
+sign-length true = omega arith
+sign-length false = omega arith
 
 -- A line of two numbers, each behind a text.
 two-numbers : (s t : List ℕ) (m n : ℕ) → length (s ++ decimal m ++ t ++ decimal n ++ ascii "\n") ≤ length s + length t + 41
 unfolding ascii
-two-numbers s t m n = simp (length-append) (omega (arith, twenty m, twenty n))
+two-numbers s t m n = simp (length-append) (omega (arith, number-length m, number-length n))
 
-pub first-length : (sources events : ℕ) → length (firstLine sources events) ≤ 57
+pub first-length : (sources events : ℕ) → length (firstLine sources events) ≤ firstLineSize
 unfolding ascii
 first-length sources events = two-numbers (ascii "sources ") (ascii " events ") sources events
 
-pub refused-length : (refusal place : ℕ) → length (refusedLine refusal place) ≤ 53
+pub refused-length : (refusal place : ℕ) → length (refusedLine refusal place) ≤ firstLineSize
 unfolding ascii
-refused-length refusal place = two-numbers (ascii "refused ") (ascii " at ") refusal place
+refused-length refusal place = omega (arith, two-numbers (ascii "refused ") (ascii " at ") refusal place)
 
-pub last-length : (depth level : ℕ) (below : Bool) (size : ℕ) → length (lastLine depth level below size) ≤ 86
+pub last-length : (depth level : ℕ) (below : Bool) (size : ℕ) → length (lastLine depth level below size) ≤ lastLineSize
 unfolding ascii
-last-length depth level below size = simp (length-append) (omega (arith, twenty depth, twenty level, one below, twenty size))
+last-length depth level below size = simp (length-append) (omega (arith, number-length depth, number-length level, sign-length below, number-length size))
 
-pub last-fits : (n at depth level : ℕ) (below : Bool) (size : ℕ) → at + 86 ≤ n → at + length (lastLine depth level below size) ≤ n
+pub last-fits : (n at depth level : ℕ) (below : Bool) (size : ℕ) → at + lastLineSize ≤ n → at + length (lastLine depth level below size) ≤ n
 last-fits n at depth level below size h = omega (arith, h, last-length depth level below size)
 
 -- The last line of a machine.
-pub end-is : (m : Machine) {q : Margin} {below : Bool} {size : ℕ} → q ≡ marginAnswer m → below ≡ ltZ (q .margin) (pos 0) → size ≡ natAbs (q .margin)
-    → lastLine (m .depth) (m .controller .current .0) below size ≡ endLine m
-end-is m eq eb es = rw (eb, es, eq)
+pub end-line-is : (m : Machine) {level : Rank} {q : Margin} {below : Bool} {size : ℕ} → level ≡ currentRank (m .controller) → q ≡ marginAnswer m
+    → below ≡ ltZ (q .margin) (pos 0) → size ≡ natAbs (q .margin) → lastLine (m .depth) (level .0) below size ≡ endLine m
+end-line-is m el eq eb es = rw (eb, es, eq, el)
 
 -- There is room for each part.
-pub first-fits : (n sources events : ℕ) → 88143 ≤ n → 0 + length (firstLine sources events) ≤ n
+pub first-fits : (n sources events : ℕ) → printSize ≤ n → 0 + length (firstLine sources events) ≤ n
 first-fits n sources events h = omega (arith, h, first-length sources events)
 
-pub refused-fits : (n refusal place : ℕ) → 88143 ≤ n → 0 + length (refusedLine refusal place) ≤ n
+pub refused-fits : (n refusal place : ℕ) → printSize ≤ n → 0 + length (refusedLine refusal place) ≤ n
 refused-fits n refusal place h = omega (arith, h, refused-length refusal place)
 
-pub events-fit : (out : List ℕ) (sources events n : ℕ) {d : List ℕ} {a : ℕ} → 88143 ≤ length out → n ≤ 4000 → Stands out 0 (firstLine sources events) a d → a + 22 * n ≤ length d
+pub events-fit : (out : List ℕ) (sources events n : ℕ) {d : List ℕ} {a : ℕ} → printSize ≤ length out → n ≤ mostEvents → Stands out 0 (firstLine sources events) a d → a + eventLineSize * n ≤ length d
 events-fit out sources events n {d} {a} h few (e, f) =
     rw (f, length-sets out 0 (firstLine sources events)) (omega (arith, h, few, e, first-length sources events))
 
-pub end-fits : (out : List ℕ) (sources events n : ℕ) (lines : List ℕ) {d₁ d₂ : List ℕ} {a b : ℕ} → 88143 ≤ length out → n ≤ 4000 → Stands out 0 (firstLine sources events) a d₁
-    → Stands d₁ a lines b d₂ → b ≤ a + 22 * n → b + 86 ≤ length d₂
+pub end-fits : (out : List ℕ) (sources events n : ℕ) (lines : List ℕ) {d₁ d₂ : List ℕ} {a b : ℕ} → printSize ≤ length out → n ≤ mostEvents → Stands out 0 (firstLine sources events) a d₁
+    → Stands d₁ a lines b d₂ → b ≤ a + eventLineSize * n → b + lastLineSize ≤ length d₂
 end-fits out sources events n lines {d₁} {d₂} {a} {b} h few (e₁, f₁) (e₂, f₂) most =
     rw (f₂, length-sets d₁ a lines, f₁, length-sets out 0 (firstLine sources events)) (omega (arith, h, few, e₁, most, first-length sources events))
 
-end-length : (m : Machine) → length (endLine m) ≤ 86
-end-length m = last-length (m .depth) (m .controller .current .0) (ltZ (marginAnswer m .margin) (pos 0)) (natAbs (marginAnswer m .margin))
+end-length : (m : Machine) → length (endLine m) ≤ lastLineSize
+end-length m = last-length (m .depth) (currentRank (m .controller) .0) (ltZ (marginAnswer m .margin) (pos 0)) (natAbs (marginAnswer m .margin))
 
 -- The whole print of a record that is played.
 pub played-print : (sources : ℕ) (hs vs answers₀ refusals₀ out : List ℕ) {p : Played} {answers refusals d₁ d₂ d₃ : List ℕ} {a b r : ℕ}
-    → 88143 ≤ length out → length hs ≤ 4000 → PlayedAll sources hs vs answers₀ refusals₀ p answers refusals
-    → Stands out 0 (firstLine sources (length hs)) a d₁ → Stands d₁ a (eventLines 0 hs answers refusals) b d₂ → b ≤ a + 22 * length hs → Stands d₂ b (endLine (p .machine)) r d₃
+    → printSize ≤ length out → length hs ≤ mostEvents → PlayedAll sources hs vs answers₀ refusals₀ p answers refusals
+    → Stands out 0 (firstLine sources (length hs)) a d₁ → Stands d₁ a (eventLines 0 hs answers refusals) b d₂ → b ≤ a + eventLineSize * length hs → Stands d₂ b (endLine (p .machine)) r d₃
     → (r ≡ length (playedLines sources hs vs)) × (d₃ ≡ filled (playedLines sources hs vs) out)
 played-print sources hs vs answers₀ refusals₀ out {p} {answers} {refusals} {d₁} {d₂} {d₃} {a} {b} {r} h few all first lines most end =
     let m₀ = powerOnOf sources .machine in
@@ -95,7 +99,7 @@ played-print sources hs vs answers₀ refusals₀ out {p} {answers} {refusals} {
     (l, stands .1 ∙ sets-filled out (playedLines sources hs vs) long)
 
 -- The whole print of a record that is refused.
-pub refused-print : (out : List ℕ) (refusal place : ℕ) {d : List ℕ} {r : ℕ} → 88143 ≤ length out → Stands out 0 (refusedLine refusal place) r d
+pub refused-print : (out : List ℕ) (refusal place : ℕ) {d : List ℕ} {r : ℕ} → printSize ≤ length out → Stands out 0 (refusedLine refusal place) r d
     → (r ≡ length (refusedLine refusal place)) × (d ≡ filled (refusedLine refusal place) out)
 refused-print out refusal place h (e, f) =
     let long : length (refusedLine refusal place) ≤ length out = omega (arith, h, refused-length refusal place) in

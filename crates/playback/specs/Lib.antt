@@ -1,3 +1,4 @@
 -- The rules of playing a record.
 pub mod Text
+pub mod Size
 pub mod Print

@@ -9,16 +9,17 @@ use lib.IntN.{pos, natAbs}
 use lib.Signed.{ltZ}
 use Rattle.buffers.specs.Filled.{filled}
 use Rattle.digits.specs.Digits.{decimal}
-use Rattle.event.specs.Event.{kindOf}
-use Rattle.record.specs.declared.Verdict.{Verdict}
-use Rattle.record.specs.Record.{board, sourcesOf, headsOf, valuesOf}
-use Rattle.record.specs.Questions.{readVerdict}
+use Rattle.event.specs.Event.{kindOf, kinds}
+use Rattle.record.specs.Record.{sourcesOf, headsOf, valuesOf}
+use Rattle.record.specs.Questions.{boardVerdict}
 use Rattle.record.specs.Answers.{allYes}
+use Rattle.pic.specs.Calls.{currentRank}
 use Rattle.handlers.specs.declared.Machine.{Machine}
 use Rattle.handlers.specs.Machines.{powerOnOf}
-use Rattle.handlers.specs.Service.{marginAnswer}
+use Rattle.handlers.specs.Calls.{marginAnswer}
 use Rattle.claims.specs.Play.{endOf, answersOf, refusalsOf}
 use Rattle.playback.specs.Text.{ascii, signed}
+use Rattle.playback.specs.Size.{printSize}
 
 -- The first line: `sources 4 events 10`.
 abbrev pub firstLine : ℕ → ℕ → List ℕ
@@ -45,7 +46,7 @@ lastLine depth level below size =
 -- Open, as a number, is how many handlers are on the stack; level is current's rank.
 abbrev pub endLine : Machine → List ℕ
 endLine m =
-    lastLine (m .depth) (m .controller .current .0) (ltZ (marginAnswer m .margin) (pos 0)) (natAbs (marginAnswer m .margin))
+    lastLine (m .depth) (currentRank (m .controller) .0) (ltZ (marginAnswer m .margin) (pos 0)) (natAbs (marginAnswer m .margin))
 
 -- A bad record prints only, say, `refused 4 at 0`.
 abbrev pub refusedLine : ℕ → ℕ → List ℕ
@@ -58,33 +59,25 @@ playedLines sources heads values =
     ++ eventLines 0 heads (answersOf (powerOnOf sources .machine) heads values) (refusalsOf (powerOnOf sources .machine) heads values)
     ++ endLine (endOf (powerOnOf sources .machine) heads values)
 
--- The questions of a record that is read into arrays which hold any record.
-abbrev pub asked : List ℕ → Verdict
-asked bytes = readVerdict board bytes 4000 4000
-
 -- The whole print.
 unfoldable pub printOf : List ℕ → List ℕ
 printOf bytes =
     cond
-    (allYes (asked bytes))
+    (allYes (boardVerdict bytes))
     (playedLines (sourcesOf bytes) (headsOf bytes) (valuesOf bytes))
-    (refusedLine (asked bytes .refusal) (asked bytes .place))
+    (refusedLine (boardVerdict bytes .refusal) (boardVerdict bytes .place))
 
--- The heads of an accepted record: the kind is 0..9.
+-- The heads of an accepted record, by question 6: each is of a kind that there is.
 abbrev pub KnownKinds : List ℕ → Type 0
-KnownKinds heads = (j : ℕ) → j < length heads → kindOf (getD heads j 0) < 10
+KnownKinds heads = (j : ℕ) → j < length heads → kindOf (getD heads j 0) < length kinds
 
--- So many bytes stand at the start of a buffer: what a caller that goes on with them needs to know.
-abbrev pub Counts : ℕ → List ℕ → Type 0
-Counts n buffer = (n ≤ length buffer) × (n ≡ length (take n buffer))
+-- The buffer has n first bytes: what a caller that goes on with them needs to know.
+abbrev pub HasFirst : ℕ → List ℕ → Type 0
+HasFirst n buffer = (n ≤ length buffer) × (n ≡ length (take n buffer))
 
--- Room for any record's print.
-abbrev pub room : ℕ
-room = 88143
-
--- A buffer with less room than that stays as it was, and the answer is 0.
+-- A buffer with less room than the print of any record may need stays as it was, and the answer is 0.
 abbrev pub printedLength : List ℕ → ℕ → ℕ
-printedLength bytes space = cond (leb room space) (length (printOf bytes)) 0
+printedLength bytes space = cond (leb printSize space) (length (printOf bytes)) 0
 
 abbrev pub printedInto : List ℕ → List ℕ → List ℕ
-printedInto bytes buffer = cond (leb room (length buffer)) (filled (printOf bytes) buffer) buffer
+printedInto bytes buffer = cond (leb printSize (length buffer)) (filled (printOf bytes) buffer) buffer

@@ -5,27 +5,36 @@ ghost use Prim.Native.Nat.{_+_, _*_, _≤_};
 ghost use lib.ListN.{length};
 ghost use lib.Seq.{sets};
 ghost use Rattle.buffers.specs.Filled.{filled};
-ghost use Rattle.playback.specs.Print.{KnownKinds, eventLines, endLine, playedLines, printOf, Counts, printedLength, printedInto};
+ghost use Rattle.playback.specs.Print.{KnownKinds, eventLines, endLine, playedLines, printOf, HasFirst, printedLength, printedInto};
+ghost use Rattle.playback.specs.Size.{eventLineSize, lastLineSize, printSize};
+ghost use Rattle.record.specs.Record.{mostEvents};
 use crate::lines::is_below;
 use crate::lines::put_event;
 use crate::lines::put_last;
 use crate::lines::put_line;
 use crate::lines::size;
 use handlers::Machine;
+use record::MOST_EVENTS;
 use record::ReadAnswer;
-use steps::margin;
 
-// Enough for the print of any record: no number has more than twenty digits, so the first line has at most 57 bytes and the last at most 86. In the line of an
-// event the index has at most 4 digits, the kind 1, the answer 10 and the refusal 3, so it has at most 22 bytes, and there are at most 4,000.
-pub const PRINT_SIZE: usize = 88143;
+// The most bytes that the first line, the line of an event and the last line have. No number has more than 20 digits; in the line of an event the index has at
+// most 4, the kind 2, the answer 10 and the refusal 3.
+const FIRST_LINE_SIZE: usize = 57;
+
+const EVENT_LINE_SIZE: usize = 23;
+
+const LAST_LINE_SIZE: usize = 86;
+
+// Enough for the print of any record.
+pub const PRINT_SIZE: usize = FIRST_LINE_SIZE + MOST_EVENTS * EVENT_LINE_SIZE + LAST_LINE_SIZE;
 
 // Puts the lines of the events from a place on, and answers the place after them.
 fn put_events(out: &mut [u8], at: usize, heads: &[u32], answers: &[u32], refusals: &[u8]) -> usize
-    requires { ⌜ (length (now heads) ≤ 4000) × (length (now heads) ≤ length (now answers)) × (length (now heads) ≤ length (now refusals))
-        × (at + 22 * length (now heads) ≤ length (now out)) × KnownKinds (now heads) ⌝ }
+    requires { ⌜ (length (now heads) ≤ mostEvents) × (length (now heads) ≤ length (now answers)) × (length (now heads) ≤ length (now refusals))
+        × (at + eventLineSize * length (now heads) ≤ length (now out)) × KnownKinds (now heads) ⌝ }
     ensures { λ r. ⌜ r ≡ at + length (eventLines 0 (now (heads .entry)) (now (answers .entry)) (now (refusals .entry))) ⌝ }
     ensures { λ _. ⌜ now (out .exit) ≡ sets (now (out .entry)) at (eventLines 0 (now (heads .entry)) (now (answers .entry)) (now (refusals .entry))) ⌝ }
-    ensures { λ r. ⌜ r ≤ at + 22 * length (now (heads .entry)) ⌝ }
+    ensures { λ r. ⌜ r ≤ at + eventLineSize * length (now (heads .entry)) ⌝ }
 {
     let mut next = at;
     let mut i: usize = 0;
@@ -45,31 +54,26 @@ fn put_events(out: &mut [u8], at: usize, heads: &[u32], answers: &[u32], refusal
 
 // Puts the last line of a machine.
 fn put_end(out: &mut [u8], at: usize, m: Machine) -> usize
-    requires { ⌜ at + 86 ≤ length (now out) ⌝ }
+    requires { ⌜ at + lastLineSize ≤ length (now out) ⌝ }
     ensures { λ r. ⌜ r ≡ at + length (endLine m) ⌝ }
     ensures { λ _. ⌜ now (out .exit) ≡ sets (now (out .entry)) at (endLine m) ⌝ }
 {
-    let q = margin(m);
+    let q = m.margin();
+    let c = m.controller;
+    let level = c.current_rank();
     let below = is_below(q.margin);
     let far = size(q.margin);
-    put_last(
-        out,
-        at,
-        m.depth as u64,
-        m.controller.current.0 as u64,
-        below,
-        far,
-    )
+    put_last(out, at, m.depth as u64, level.0 as u64, below, far)
 }
 
 // Plays the events from power-on, and puts their print at the start.
 fn print_played(out: &mut [u8], sources: u32, heads: &[u32], values: &[u32]) -> usize
-    requires { ⌜ (length (now heads) ≤ 4000) × (length (now values) ≡ length (now heads)) × KnownKinds (now heads) × (88143 ≤ length (now out)) ⌝ }
+    requires { ⌜ (length (now heads) ≤ mostEvents) × (length (now values) ≡ length (now heads)) × KnownKinds (now heads) × (printSize ≤ length (now out)) ⌝ }
     ensures { λ r. ⌜ r ≡ length (playedLines sources (now (heads .entry)) (now (values .entry))) ⌝ }
     ensures { λ _. ⌜ now (out .exit) ≡ filled (playedLines sources (now (heads .entry)) (now (values .entry))) (now (out .entry)) ⌝ }
 {
-    let mut answers: [u32; 4000] = [0; 4000];
-    let mut refusals: [u8; 4000] = [0; 4000];
+    let mut answers: [u32; MOST_EVENTS] = [0; MOST_EVENTS];
+    let mut refusals: [u8; MOST_EVENTS] = [0; MOST_EVENTS];
     let played = claims::play(sources, heads, values, &mut answers, &mut refusals);
     let a = put_line(
         out,
@@ -86,12 +90,12 @@ fn print_played(out: &mut [u8], sources: u32, heads: &[u32], values: &[u32]) -> 
 
 // Puts the print of a record at the start.
 fn print_to(record: &[u8], out: &mut [u8]) -> usize
-    requires { ⌜ 88143 ≤ length (now out) ⌝ }
+    requires { ⌜ printSize ≤ length (now out) ⌝ }
     ensures { λ r. ⌜ r ≡ length (printOf (now («record» .entry))) ⌝ }
     ensures { λ _. ⌜ now (out .exit) ≡ filled (printOf (now («record» .entry))) (now (out .entry)) ⌝ }
 {
-    let mut heads: [u32; 4000] = [0; 4000];
-    let mut values: [u32; 4000] = [0; 4000];
+    let mut heads: [u32; MOST_EVENTS] = [0; MOST_EVENTS];
+    let mut values: [u32; MOST_EVENTS] = [0; MOST_EVENTS];
     let got = record::read(record, &mut heads, &mut values);
     match got {
         ReadAnswer::Done { events, sources } => print_played(
@@ -115,7 +119,7 @@ fn print_to(record: &[u8], out: &mut [u8]) -> usize
 pub fn print(record: &[u8], out: &mut [u8; PRINT_SIZE]) -> usize
     ensures { λ r. ⌜ r ≡ length (printOf (now («record» .entry))) ⌝ }
     ensures { λ _. ⌜ now (out .exit) ≡ filled (printOf (now («record» .entry))) (now (out .entry)) ⌝ }
-    ensures { λ r. ⌜ Counts r (now (out .exit)) ⌝ }
+    ensures { λ r. ⌜ HasFirst r (now (out .exit)) ⌝ }
 {
     print_to(record, out)
 }

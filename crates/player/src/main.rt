@@ -1,5 +1,8 @@
 // Plays a record: the record on standard input, the print on standard output.
 
+// One byte more than the longest record, so that longer input is refused by the questions, as all of it would be.
+const INPUT_SIZE: usize = record::RECORD_SIZE + 1;
+
 // Writes the print of a record.
 fn show(record: &[u8]) {
     let mut out: [u8; playback::PRINT_SIZE] = [0; playback::PRINT_SIZE];
@@ -7,9 +10,8 @@ fn show(record: &[u8]) {
     console::write_out(&out[..length]);
 }
 
-// The longest record has 32,008 bytes. One byte more is read, so that longer input is refused by the questions, as all of it would be.
 fn main() {
-    let mut record: [u8; 32009] = [0; 32009];
+    let mut record: [u8; INPUT_SIZE] = [0; INPUT_SIZE];
     let input = console::read_all(&mut record);
     if input.failed {
         console::say_cannot_read();

@@ -14,34 +14,34 @@ use Rattle.record.specs.declared.ReadAnswer.{ReadAnswer}
 use Rattle.record.specs.declared.ReadAnswer.the-variants as reading
 use Rattle.record.specs.declared.WriteAnswer.{WriteAnswer}
 use Rattle.record.specs.declared.WriteAnswer.the-variants as writing
-use Rattle.record.specs.Record.{countOf, sourcesOf, wordsFrom}
-use Rattle.record.specs.Questions.{lengthOf, readVerdict, writeVerdict}
-use Rattle.record.specs.Answers.{Answer, accepted, refused, readNumbers, readAnswer, readHeads, readValues, writeNumbers, writeAnswer}
+use Rattle.record.specs.Record.{countOf, sourcesOf, wordsFrom, lengthOf}
+use Rattle.record.specs.Questions.{readVerdict, writeVerdict}
+use Rattle.record.specs.Answers.{Answer, doneWith, refusedAt, readNumbers, readAnswer, readHeads, readValues, writeNumbers, writeAnswer}
 
 module _ (limits : Limits) (bytes heads values : List ℕ) {v : Verdict} (e : v ≡ readVerdict limits bytes (length heads) (length values)) where
   pub read-refused : (v .refusal ≡ 0 → ⊥)
-      → (refused (v .refusal) (v .place) ≡ readAnswer limits bytes (length heads) (length values))
+      → (refusedAt (v .refusal) (v .place) ≡ readAnswer limits bytes (length heads) (length values))
       × ((heads ≡ readHeads limits bytes heads values) × (values ≡ readValues limits bytes heads values))
   read-refused z = rw (← e, ne-eqb _ _ z) (refl, (refl, refl))
 
   pub read-accepted : {n s : ℕ} {hs vs : List ℕ} → v .refusal ≡ 0
       → n ≡ countOf bytes → s ≡ sourcesOf bytes → hs ≡ filled (wordsFrom bytes 2 n) heads → vs ≡ filled (wordsFrom bytes (2 + n) n) values
-      → (accepted (n ∷ s ∷ []) ≡ readAnswer limits bytes (length heads) (length values))
+      → (doneWith (n ∷ s ∷ []) ≡ readAnswer limits bytes (length heads) (length values))
       × ((hs ≡ readHeads limits bytes heads values) × (vs ≡ readValues limits bytes heads values))
   read-accepted z en es eh ev = rw (eh, ev, en, es, ← e, eq-eqb _ _ z) (refl, (refl, refl))
 
 -- An answer of values: every question was answered yes.
-yes-back : (q at : ℕ) (xs ys : List ℕ) → accepted ys ≡ cond (eqb q 0) (accepted xs) (refused q at) → (q ≡ 0) × (ys ≡ xs)
+yes-back : (q at : ℕ) (xs ys : List ℕ) → doneWith ys ≡ cond (eqb q 0) (doneWith xs) (refusedAt q at) → (q ≡ 0) × (ys ≡ xs)
 yes-back zero at xs ys e = (refl, ap (λ (a : Answer). a .values) e)
 yes-back (suc q) at xs ys e =
     absurd (suc-ne-zero q (sym (ap (λ (a : Answer). a .refusal) (rw (ne-eqb (suc q) 0 (suc-ne-zero q)) at e))))
 
 -- An answer of a number and a place: they are those of the question that was answered no.
-no-back : (q at number place x : ℕ) (xs : List ℕ) → refused number place ≡ cond (eqb q 0) (accepted (x ∷ xs)) (refused q at)
+no-back : (q at number place x : ℕ) (xs : List ℕ) → refusedAt number place ≡ cond (eqb q 0) (doneWith (x ∷ xs)) (refusedAt q at)
     → (q ≡ 0 → ⊥) × (number ≡ q) × (place ≡ at)
 no-back zero at number place x xs e = absurd (suc-ne-zero (length xs) (sym (ap (λ (a : Answer). length (a .values)) e)))
 no-back (suc q) at number place x xs e =
-    let e′ : refused number place ≡ refused (suc q) at = rw (ne-eqb (suc q) 0 (suc-ne-zero q)) at e in
+    let e′ : refusedAt number place ≡ refusedAt (suc q) at = rw (ne-eqb (suc q) 0 (suc-ne-zero q)) at e in
     (suc-ne-zero q, ap (λ (a : Answer). a .refusal) e′, ap (λ (a : Answer). a .place) e′)
 
 -- What the answer of a writing tells.

@@ -4,27 +4,11 @@ use Prim.Native.Nat.{ℕ}
 use mathlib.Core.List.{List, [], _∷_}
 use lib.ListN.{length}
 use Rattle.event.specs.Event.{shapeOf}
+use Rattle.event.specs.Listing.{listingSources, listingHeads, listingValues}
 use Rattle.record.specs.Words.{wordsOf, bytesOfWords}
 use Rattle.record.specs.Record.{board, recordOf, countOf, sourcesOf, headsOf, valuesOf}
 use Rattle.record.specs.Questions.{walkFrom, readVerdict, writeVerdict}
-use Rattle.record.specs.Answers.{accepted, refused, readAnswer, writeAnswer}
-
-abbrev heads : List ℕ
-heads =
-    0x00022008
-    ∷ 0x00020008
-    ∷ 0x00000000
-    ∷ 0x00050000
-    ∷ 0x00090000
-    ∷ 0x00050000
-    ∷ 0x00060000
-    ∷ 0x00080000
-    ∷ 0x00090000
-    ∷ 0x00080000
-    ∷ []
-
-abbrev values : List ℕ
-values = 1 ∷ 5 ∷ 4 ∷ 0 ∷ 1 ∷ 0 ∷ 0 ∷ 0 ∷ 0 ∷ 0 ∷ []
+use Rattle.record.specs.Answers.{doneWith, refusedAt, readAnswer, writeAnswer}
 
 -- The 88 bytes: n and N, ten heads, ten values; a word to a line.
 abbrev bytes : List ℕ
@@ -56,62 +40,62 @@ bytes =
 pub eighty-eight : length bytes ≡ 88
 eighty-eight = refl
 
-pub listing-bytes : recordOf 4 heads values ≡ bytes
+pub listing-bytes : recordOf listingSources listingHeads listingValues ≡ bytes
 unfolding bytesOfWords
 listing-bytes = refl
 
-pub listing-count : countOf bytes ≡ 10
+pub listing-count : countOf bytes ≡ length listingHeads
 unfolding wordsOf
 listing-count = refl
 
-pub listing-sources : sourcesOf bytes ≡ 4
+pub listing-sources : sourcesOf bytes ≡ listingSources
 unfolding wordsOf
 listing-sources = refl
 
-pub listing-heads : headsOf bytes ≡ heads
+pub listing-heads : headsOf bytes ≡ listingHeads
 unfolding wordsOf
 listing-heads = refl
 
-pub listing-values : valuesOf bytes ≡ values
+pub listing-values : valuesOf bytes ≡ listingValues
 unfolding wordsOf
 listing-values = refl
 
 -- Written into 88 bytes.
-pub listing-written : writeAnswer board 4 heads values 88 ≡ accepted (88 ∷ [])
+pub listing-written : writeAnswer board listingSources listingHeads listingValues 88 ≡ doneWith (88 ∷ [])
 unfolding writeVerdict walkFrom shapeOf
 listing-written = refl
 
 -- Read into arrays of ten places.
-pub listing-read : readAnswer board bytes 10 10 ≡ accepted (10 ∷ 4 ∷ [])
+pub listing-read : readAnswer board bytes 10 10 ≡ doneWith (10 ∷ 4 ∷ [])
 unfolding readVerdict wordsOf walkFrom shapeOf
 listing-read = refl
 
 -- Refusals of reading, one for each question. Of several that fail the first decides: the second has N and n both too large.
-pub refused-1 : readAnswer board (0 ∷ 0 ∷ 0 ∷ 0 ∷ 4 ∷ 0 ∷ 0 ∷ []) 9 9 ≡ refused 1 0
+pub refused-1 : readAnswer board (0 ∷ 0 ∷ 0 ∷ 0 ∷ 4 ∷ 0 ∷ 0 ∷ []) 9 9 ≡ refusedAt 1 0
 unfolding readVerdict wordsOf walkFrom shapeOf
 refused-1 = refl
 
-pub refused-2 : readAnswer board (255 ∷ 255 ∷ 255 ∷ 255 ∷ 255 ∷ 255 ∷ 255 ∷ 255 ∷ []) 9 9 ≡ refused 2 0
+pub refused-2 : readAnswer board (255 ∷ 255 ∷ 255 ∷ 255 ∷ 255 ∷ 255 ∷ 255 ∷ 255 ∷ []) 9 9 ≡ refusedAt 2 0
 unfolding readVerdict wordsOf walkFrom shapeOf
 refused-2 = refl
 
-pub refused-3 : readAnswer board (255 ∷ 255 ∷ 255 ∷ 255 ∷ 4 ∷ 0 ∷ 0 ∷ 0 ∷ []) 9 9 ≡ refused 3 0
+pub refused-3 : readAnswer board (255 ∷ 255 ∷ 255 ∷ 255 ∷ 4 ∷ 0 ∷ 0 ∷ 0 ∷ []) 9 9 ≡ refusedAt 3 0
 unfolding readVerdict wordsOf walkFrom shapeOf
 refused-3 = refl
 
-pub refused-4 : readAnswer board (1 ∷ 0 ∷ 0 ∷ 0 ∷ 4 ∷ 0 ∷ 0 ∷ 0 ∷ []) 9 9 ≡ refused 4 0
+pub refused-4 : readAnswer board (1 ∷ 0 ∷ 0 ∷ 0 ∷ 4 ∷ 0 ∷ 0 ∷ 0 ∷ []) 9 9 ≡ refusedAt 4 0
 unfolding readVerdict wordsOf walkFrom shapeOf
 refused-4 = refl
 
-pub refused-5 : readAnswer board bytes 10 9 ≡ refused 5 0
+pub refused-5 : readAnswer board bytes 10 9 ≡ refusedAt 5 0
 unfolding readVerdict wordsOf walkFrom shapeOf
 refused-5 = refl
 
 -- Two events of which the second is of no kind; and the same with an address in the first, a take.
-pub refused-6 : readAnswer board (recordOf 4 (0x50000 ∷ 0xa0000 ∷ []) (0 ∷ 0 ∷ [])) 9 9 ≡ refused 6 1
+pub refused-6 : readAnswer board (recordOf 4 (0x50000 ∷ 0xa0000 ∷ []) (0 ∷ 0 ∷ [])) 9 9 ≡ refusedAt 6 1
 unfolding readVerdict wordsOf bytesOfWords walkFrom shapeOf
 refused-6 = refl
 
-pub refused-7 : readAnswer board (recordOf 4 (0x50001 ∷ 0xa0000 ∷ []) (0 ∷ 0 ∷ [])) 9 9 ≡ refused 7 0
+pub refused-7 : readAnswer board (recordOf 4 (0x50001 ∷ 0xa0000 ∷ []) (0 ∷ 0 ∷ [])) 9 9 ≡ refusedAt 7 0
 unfolding readVerdict wordsOf bytesOfWords walkFrom shapeOf
 refused-7 = refl

@@ -1,15 +1,16 @@
 -- The questions in order: the verdict of each no, and what follows where every one was answered yes.
-use mathlib.Core.Path.{_≡_, refl, sym}
+use mathlib.Core.Path.{_≡_, refl, sym, ap, _∙_}
 use mathlib.Core.Bool.{Bool, true, false, not, _&&_, true≢false}
 use Prim.Native.Nat.{ℕ, suc, _+_, _≤_, _<_}
 use native.Mathlib.Omega.{arith}
 use mathlib.Core.List.{List}
 use borrow.Author.Tests.{leb-true, eqb-true, le-leb, lt-leb, eq-eqb, ne-eqb, not-true, not-false}
 use lib.ListN.{length}
+use Rattle.event.specs.Event.{shapeOf}
 use Rattle.record.specs.declared.Limits.{Limits}
 use Rattle.record.specs.declared.Verdict.{Verdict}
-use Rattle.record.specs.Record.{countOf, sourcesOf, headsOf, valuesOf, wordsFrom}
-use Rattle.record.specs.Questions.{verdict, ask, sourcesInRange, lengthOf, arraysHold, walk, readVerdict, writeVerdict}
+use Rattle.record.specs.Record.{countOf, sourcesOf, headsOf, valuesOf, wordsFrom, lengthOf, board, mostEvents}
+use Rattle.record.specs.Questions.{verdict, question, sourcesInRange, arraysHold, walk, readVerdict, writeVerdict, boardVerdict}
 
 -- Reading: the verdict of each no, given the answers before it as the code has them.
 module _ (limits : Limits) (bytes : List ℕ) (hp vp : ℕ) where
@@ -37,7 +38,7 @@ module _ (limits : Limits) (bytes : List ℕ) (hp vp : ℕ) where
           unfolding readVerdict
           read-no-5 h = rw (le-leb _ _ q1, ← es, not-false (sourcesInRange limits s) q2, ← en, le-leb _ _ q3, eq-eqb _ _ q4, not-true (arraysHold n hp vp) h)
 
-          pub read-walk : not (arraysHold n hp vp) ≡ false → walk (wordsFrom bytes 2 n) (wordsFrom bytes (2 + n) n) ≡ readVerdict limits bytes hp vp
+          pub read-walk : not (arraysHold n hp vp) ≡ false → walk shapeOf (wordsFrom bytes 2 n) (wordsFrom bytes (2 + n) n) ≡ readVerdict limits bytes hp vp
           unfolding readVerdict
           read-walk h = rw (le-leb _ _ q1, ← es, not-false (sourcesInRange limits s) q2, ← en, le-leb _ _ q3, eq-eqb _ _ q4, not-false (arraysHold n hp vp) h)
 
@@ -47,9 +48,9 @@ and-true true false h = (refl, h)
 and-true false b h = (h, absurd (true≢false (sym h)))
 
 -- A question that did not refuse was answered yes, and so were those after it.
-ask-yes : (k : ℕ) (a : Bool) (v : Verdict) → ask (suc k) a v .refusal ≡ 0 → (a ≡ true) × (v .refusal ≡ 0)
-ask-yes k true v h = (refl, h)
-ask-yes k false v h = absurd (omega arith)
+question-yes : (k : ℕ) (a : Bool) (v : Verdict) → question (suc k) a v .refusal ≡ 0 → (a ≡ true) × (v .refusal ≡ 0)
+question-yes k true v h = (refl, h)
+question-yes k false v h = absurd (omega arith)
 
 -- The answers of an accepted reading.
 pub record Readable (limits : Limits) (bytes : List ℕ) (headPlaces valuePlaces : ℕ) : Type 0 where
@@ -60,16 +61,16 @@ pub record Readable (limits : Limits) (bytes : List ℕ) (headPlaces valuePlaces
   pub whole : length bytes ≡ lengthOf (countOf bytes)
   pub headsHold : countOf bytes ≤ headPlaces
   pub valuesHold : countOf bytes ≤ valuePlaces
-  pub events : walk (headsOf bytes) (valuesOf bytes) .refusal ≡ 0
+  pub events : walk shapeOf (headsOf bytes) (valuesOf bytes) .refusal ≡ 0
 
 pub readable : (limits : Limits) (bytes : List ℕ) (hp vp : ℕ) → readVerdict limits bytes hp vp .refusal ≡ 0 → Readable limits bytes hp vp
 unfolding readVerdict
 readable limits bytes hp vp h =
-    let q1 = ask-yes 0 _ _ h in
-    let q2 = ask-yes 1 _ _ (q1 .1) in
-    let q3 = ask-yes 2 _ _ (q2 .1) in
-    let q4 = ask-yes 3 _ _ (q3 .1) in
-    let q5 = ask-yes 4 _ _ (q4 .1) in
+    let q1 = question-yes 0 _ _ h in
+    let q2 = question-yes 1 _ _ (q1 .1) in
+    let q3 = question-yes 2 _ _ (q2 .1) in
+    let q4 = question-yes 3 _ _ (q3 .1) in
+    let q5 = question-yes 4 _ _ (q4 .1) in
     let range = and-true _ _ (q2 .0) in
     let hold = and-true _ _ (q5 .0) in
     record {
@@ -90,16 +91,16 @@ pub record Writable (limits : Limits) (sources : ℕ) (heads values : List ℕ) 
   pub few : length heads ≤ limits .events
   pub same : length heads ≡ length values
   pub holds : lengthOf (length heads) ≤ space
-  pub events : walk heads values .refusal ≡ 0
+  pub events : walk shapeOf heads values .refusal ≡ 0
 
 pub writable : (limits : Limits) (sources : ℕ) (heads values : List ℕ) (space : ℕ) → writeVerdict limits sources heads values space .refusal ≡ 0
     → Writable limits sources heads values space
 unfolding writeVerdict
 writable limits sources heads values space h =
-    let q2 = ask-yes 1 _ _ h in
-    let q3 = ask-yes 2 _ _ (q2 .1) in
-    let q4 = ask-yes 3 _ _ (q3 .1) in
-    let q5 = ask-yes 4 _ _ (q4 .1) in
+    let q2 = question-yes 1 _ _ h in
+    let q3 = question-yes 2 _ _ (q2 .1) in
+    let q4 = question-yes 3 _ _ (q3 .1) in
+    let q5 = question-yes 4 _ _ (q4 .1) in
     let range = and-true _ _ (q2 .0) in
     record {
       two = leb-true _ _ (range .0);
@@ -109,3 +110,7 @@ writable limits sources heads values space h =
       holds = leb-true _ _ (q5 .0);
       events = q5 .1;
     }
+
+-- Arrays that have a place for each event of any record.
+pub board-verdict : (bytes : List ℕ) {a b : ℕ} → a ≡ mostEvents → b ≡ mostEvents → readVerdict board bytes a b ≡ boardVerdict bytes
+board-verdict bytes {a} {b} ea eb = ap (λ (x : ℕ). readVerdict board bytes x b) ea ∙ ap (readVerdict board bytes mostEvents) eb

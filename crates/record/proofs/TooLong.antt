@@ -11,8 +11,8 @@ use lib.Seq.{getD-take, length-take-le}
 use Rattle.record.specs.declared.Limits.{Limits}
 use Rattle.record.specs.declared.Verdict.{Verdict}
 use Rattle.record.specs.Words.{wordsOf}
-use Rattle.record.specs.Record.{countOf, sourcesOf}
-use Rattle.record.specs.Questions.{verdict, ask, lengthOf, countInRange, sourcesInRange, readVerdict}
+use Rattle.record.specs.Record.{countOf, sourcesOf, lengthOf}
+use Rattle.record.specs.Questions.{verdict, question, countInRange, sourcesInRange, readVerdict}
 use Rattle.record.proofs.Words.{word-at}
 use Rattle.record.proofs.Questions.{readable}
 
@@ -31,10 +31,10 @@ word-cut bytes k m h l =
 
 -- Questions 3 and 4 of bytes that are more than any record has.
 too-many : (limits : Limits) (n l : ℕ) (next : Verdict) → lengthOf (limits .events) < l
-    → ask 3 (countInRange limits n) (ask 4 (eqb l (lengthOf n)) next) ≡ ask 3 (countInRange limits n) (verdict 4 0)
+    → question 3 (countInRange limits n) (question 4 (eqb l (lengthOf n)) next) ≡ question 3 (countInRange limits n) (verdict 4 0)
 too-many limits n l next h = by-case (countInRange limits n) refl
   where
-    by-case : (t : Bool) → countInRange limits n ≡ t → ask 3 t (ask 4 (eqb l (lengthOf n)) next) ≡ ask 3 t (verdict 4 0)
+    by-case : (t : Bool) → countInRange limits n ≡ t → question 3 t (question 4 (eqb l (lengthOf n)) next) ≡ question 3 t (verdict 4 0)
     by-case false e = refl
     by-case true e =
         let few : n ≤ limits .events = leb-true n (limits .events) e in
@@ -43,11 +43,11 @@ too-many limits n l next h = by-case (countInRange limits n) refl
 
 -- All of them: 1 is answered yes, and where 2 and 3 are, 4 is answered no.
 too-long : (limits : Limits) (bytes : List ℕ) (hp vp : ℕ) → lengthOf (limits .events) < length bytes
-    → readVerdict limits bytes hp vp ≡ ask 2 (sourcesInRange limits (sourcesOf bytes)) (ask 3 (countInRange limits (countOf bytes)) (verdict 4 0))
+    → readVerdict limits bytes hp vp ≡ question 2 (sourcesInRange limits (sourcesOf bytes)) (question 3 (countInRange limits (countOf bytes)) (verdict 4 0))
 unfolding readVerdict
 too-long limits bytes hp vp h =
     let eight : 8 ≤ length bytes = omega arith in
-    rw (le-leb 8 (length bytes) eight) (ap (ask 2 (sourcesInRange limits (sourcesOf bytes))) (too-many limits (countOf bytes) (length bytes) _ h))
+    rw (le-leb 8 (length bytes) eight) (ap (question 2 (sourcesInRange limits (sourcesOf bytes))) (too-many limits (countOf bytes) (length bytes) _ h))
 
 -- So a program that reads more bytes than any record has needs to read no further.
 pub read-cut : (limits : Limits) (bytes : List ℕ) (m headPlaces valuePlaces : ℕ) → lengthOf (limits .events) < m → m ≤ length bytes

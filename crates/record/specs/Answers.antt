@@ -11,8 +11,8 @@ use Rattle.record.specs.declared.ReadAnswer.{ReadAnswer}
 use Rattle.record.specs.declared.ReadAnswer.the-variants as reading
 use Rattle.record.specs.declared.WriteAnswer.{WriteAnswer}
 use Rattle.record.specs.declared.WriteAnswer.the-variants as writing
-use Rattle.record.specs.Record.{recordOf, countOf, sourcesOf, headsOf, valuesOf}
-use Rattle.record.specs.Questions.{lengthOf, readVerdict, writeVerdict}
+use Rattle.record.specs.Record.{recordOf, countOf, sourcesOf, headsOf, valuesOf, lengthOf}
+use Rattle.record.specs.Questions.{readVerdict, writeVerdict}
 
 -- The refusal's number and place, and the values that are answered.
 pub record Answer : Type 0 where
@@ -21,30 +21,30 @@ pub record Answer : Type 0 where
   pub values : List ℕ
 
 -- Accepted: number 0.
-abbrev pub accepted : List ℕ → Answer
-accepted answered = record { refusal = 0; place = 0; values = answered }
+abbrev pub doneWith : List ℕ → Answer
+doneWith answers = record { refusal = 0; place = 0; values = answers }
 
 -- Refused, they answer the number and a place, and no values.
-abbrev pub refused : ℕ → ℕ → Answer
-refused number at = record { refusal = number; place = at; values = [] }
+abbrev pub refusedAt : ℕ → ℕ → Answer
+refusedAt number at = record { refusal = number; place = at; values = [] }
 
 -- Number and values of each answer of the reader: n and N, or number and place.
 abbrev pub readNumbers : ReadAnswer → Answer
-readNumbers (reading.Done events sources) = accepted (events ∷ sources ∷ [])
-readNumbers (reading.Refused number at) = refused number at
+readNumbers (reading.Done events sources) = doneWith (events ∷ sources ∷ [])
+readNumbers (reading.Refused number at) = refusedAt number at
 
 -- Number and values of each answer of the writer: the length, or number and place.
 abbrev pub writeNumbers : WriteAnswer → Answer
-writeNumbers (writing.Done count) = accepted (count ∷ [])
-writeNumbers (writing.Refused number at) = refused number at
+writeNumbers (writing.Done count) = doneWith (count ∷ [])
+writeNumbers (writing.Refused number at) = refusedAt number at
 
 -- No question was answered no.
 abbrev pub allYes : Verdict → Bool
 allYes v = eqb (v .refusal) 0
 
 -- What is answered after the questions.
-abbrev pub answered : Verdict → List ℕ → Answer
-answered v values = cond (allYes v) (accepted values) (refused (v .refusal) (v .place))
+abbrev pub answerBy : Verdict → List ℕ → Answer
+answerBy v values = cond (allYes v) (doneWith values) (refusedAt (v .refusal) (v .place))
 
 -- Refused, all of it stays as it was.
 abbrev pub stored : Verdict → List ℕ → List ℕ → List ℕ
@@ -53,7 +53,7 @@ stored v new old = cond (allYes v) (filled new old) old
 -- The reader answers n and N,
 abbrev pub readAnswer : Limits → List ℕ → ℕ → ℕ → Answer
 readAnswer limits bytes headPlaces valuePlaces =
-    answered (readVerdict limits bytes headPlaces valuePlaces) (countOf bytes ∷ sourcesOf bytes ∷ [])
+    answerBy (readVerdict limits bytes headPlaces valuePlaces) (countOf bytes ∷ sourcesOf bytes ∷ [])
 
 -- and fills two lent arrays of numbers in their first n places.
 abbrev pub readHeads : Limits → List ℕ → List ℕ → List ℕ → List ℕ
@@ -65,7 +65,7 @@ readValues limits bytes heads values = stored (readVerdict limits bytes (length 
 -- The writer answers the length,
 abbrev pub writeAnswer : Limits → ℕ → List ℕ → List ℕ → ℕ → Answer
 writeAnswer limits sources heads values space =
-    answered (writeVerdict limits sources heads values space) (lengthOf (length heads) ∷ [])
+    answerBy (writeVerdict limits sources heads values space) (lengthOf (length heads) ∷ [])
 
 -- and does the reverse.
 abbrev pub writtenBytes : Limits → ℕ → List ℕ → List ℕ → List ℕ → List ℕ

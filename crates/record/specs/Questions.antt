@@ -1,5 +1,5 @@
 -- Document 01, "Questions, first no decides": 1 to 7, reading and writing.
-use Prim.Native.Nat.{ℕ, suc, _+_, _*_}
+use Prim.Native.Nat.{ℕ, suc}
 use mathlib.Core.Bool.{Bool, _&&_, cond}
 use mathlib.Core.List.{List, [], _∷_}
 use lib.ListN.{length}
@@ -7,7 +7,7 @@ use lib.Dec.{leb, eqb}
 use Rattle.event.specs.Event.{shapeOf}
 use Rattle.record.specs.declared.Limits.{Limits}
 use Rattle.record.specs.declared.Verdict.{Verdict}
-use Rattle.record.specs.Record.{countOf, sourcesOf, headsOf, valuesOf}
+use Rattle.record.specs.Record.{countOf, sourcesOf, headsOf, valuesOf, lengthOf, board, mostEvents}
 
 -- The number of the question that was answered no, and the place.
 abbrev pub verdict : ℕ → ℕ → Verdict
@@ -18,8 +18,8 @@ abbrev pub noRefusal : Verdict
 noRefusal = verdict 0 0
 
 -- First no decides: on yes the questions after this one are asked. For 1 to 5 the place is 0.
-abbrev pub ask : ℕ → Bool → Verdict → Verdict
-ask number answer next = cond answer next (verdict number 0)
+abbrev pub question : ℕ → Bool → Verdict → Verdict
+question number answer next = cond answer next (verdict number 0)
 
 -- 1. Reading: is it at least 8 bytes?
 abbrev pub holdsSizes : List ℕ → Bool
@@ -33,40 +33,41 @@ sourcesInRange limits sources = leb 2 sources && leb sources (limits .sources)
 abbrev pub countInRange : Limits → ℕ → Bool
 countInRange limits n = leb n (limits .events)
 
--- The length of a record of n events: 8 + 8 × n.
-abbrev pub lengthOf : ℕ → ℕ
-lengthOf n = 8 + 8 * n
-
 -- 5. Does the destination hold it all (reading: n places in each array)?
 abbrev pub arraysHold : ℕ → ℕ → ℕ → Bool
 arraysHold n headPlaces valuePlaces = leb n headPlaces && leb n valuePlaces
 
 -- Questions 6 and 7 go event by event; the walk ends at the first event that fails a check and gives its index.
-unfoldable pub walkFrom : ℕ → List ℕ → List ℕ → Verdict
-walkFrom i [] values = noRefusal
-walkFrom i (head ∷ heads) [] = noRefusal
-walkFrom i (head ∷ heads) (value ∷ values) =
-    cond (eqb (shapeOf head value) 0) (walkFrom (suc i) heads values) (verdict (shapeOf head value) i)
+-- The check of an event, by its head and value, gives 0 or the number of the question that is answered no.
+unfoldable pub walkFrom : (ℕ → ℕ → ℕ) → ℕ → List ℕ → List ℕ → Verdict
+walkFrom check i [] values = noRefusal
+walkFrom check i (head ∷ heads) [] = noRefusal
+walkFrom check i (head ∷ heads) (value ∷ values) =
+    cond (eqb (check head value) 0) (walkFrom check (suc i) heads values) (verdict (check head value) i)
 
 -- The index is from 0.
-abbrev pub walk : List ℕ → List ℕ → Verdict
-walk = walkFrom 0
+abbrev pub walk : (ℕ → ℕ → ℕ) → List ℕ → List ℕ → Verdict
+walk check = walkFrom check 0
 
 -- Questions 1 to 7, reading.
 unfoldable pub readVerdict : Limits → List ℕ → ℕ → ℕ → Verdict
 readVerdict limits bytes headPlaces valuePlaces =
-    ask 1 (holdsSizes bytes)
-    (ask 2 (sourcesInRange limits (sourcesOf bytes))
-    (ask 3 (countInRange limits (countOf bytes))
-    (ask 4 (eqb (length bytes) (lengthOf (countOf bytes)))
-    (ask 5 (arraysHold (countOf bytes) headPlaces valuePlaces)
-    (walk (headsOf bytes) (valuesOf bytes))))))
+    question 1 (holdsSizes bytes)
+    (question 2 (sourcesInRange limits (sourcesOf bytes))
+    (question 3 (countInRange limits (countOf bytes))
+    (question 4 (eqb (length bytes) (lengthOf (countOf bytes)))
+    (question 5 (arraysHold (countOf bytes) headPlaces valuePlaces)
+    (walk shapeOf (headsOf bytes) (valuesOf bytes))))))
+
+-- The same of arrays that have a place for each event of any record.
+abbrev pub boardVerdict : List ℕ → Verdict
+boardVerdict bytes = readVerdict board bytes mostEvents mostEvents
 
 -- Questions 2 to 7, writing: 4 is whether heads and values are equally many (n is the heads).
 unfoldable pub writeVerdict : Limits → ℕ → List ℕ → List ℕ → ℕ → Verdict
 writeVerdict limits sources heads values space =
-    ask 2 (sourcesInRange limits sources)
-    (ask 3 (countInRange limits (length heads))
-    (ask 4 (eqb (length heads) (length values))
-    (ask 5 (leb (lengthOf (length heads)) space)
-    (walk heads values))))
+    question 2 (sourcesInRange limits sources)
+    (question 3 (countInRange limits (length heads))
+    (question 4 (eqb (length heads) (length values))
+    (question 5 (leb (lengthOf (length heads)) space)
+    (walk shapeOf heads values))))

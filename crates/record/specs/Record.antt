@@ -1,13 +1,29 @@
--- Document 01, "The record": its bytes, and the limits of the board.
-use Prim.Native.Nat.{ℕ, _+_}
+-- Document 01, "The record": its bytes, its limits and its length.
+use Prim.Native.Nat.{ℕ, _+_, _*_}
 use mathlib.Core.List.{List, _∷_, _++_}
 use lib.ListN.{length, getD, take, drop}
 use Rattle.record.specs.declared.Limits.{Limits}
 use Rattle.record.specs.Words.{wordsOf, bytesOfWords}
 
--- N in 2..255; n at most 4,000.
+-- N in 2..255.
+abbrev pub mostSources : ℕ
+mostSources = 255
+
+-- n at most 4,000.
+abbrev pub mostEvents : ℕ
+mostEvents = 4000
+
+-- The limits of every record.
 abbrev pub board : Limits
-board = record { sources = 255; events = 4000 }
+board = record { sources = mostSources; events = mostEvents }
+
+-- The length of a record of n events: 8 + 8 × n.
+abbrev pub lengthOf : ℕ → ℕ
+lengthOf n = 8 + 8 * n
+
+-- The longest record has 32,008 bytes.
+abbrev pub recordSize : ℕ
+recordSize = lengthOf mostEvents
 
 -- Sizes, then two arrays, all 32-bit little-endian: event count n, N, n heads, n values.
 abbrev pub recordOf : ℕ → List ℕ → List ℕ → List ℕ

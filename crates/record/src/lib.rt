@@ -4,22 +4,32 @@ ghost use mathlib.Core.Path.{_≡_};
 ghost use Prim.Native.Nat.{_+_, _*_, _≤_};
 ghost use lib.ListN.{length, getD};
 ghost use Rattle.buffers.specs.Filled.{filled};
+ghost use Rattle.event.specs.Event.{shapeOf};
 ghost use Rattle.record.specs.Words.{wordOf, wordsOf};
-ghost use Rattle.record.specs.Record.{board, wordsFrom};
-ghost use Rattle.record.specs.Questions.{lengthOf, walk, readVerdict};
+ghost use Rattle.record.specs.Record.{board, wordsFrom, lengthOf};
+ghost use Rattle.record.specs.Questions.{walk, readVerdict};
 ghost use Rattle.record.specs.Answers.{readNumbers, readAnswer, readHeads, readValues};
 
 // The greatest N.
 pub const MOST_SOURCES: u32 = 255;
 
 // The most events.
-pub const MOST_EVENTS: u32 = 4000;
+pub const MOST_EVENTS: usize = 4000;
+
+// The bytes of the longest record.
+pub const RECORD_SIZE: usize = 8 + 8 * MOST_EVENTS;
 
 // What a record may hold at most: N, and events.
 pub struct Limits {
     pub sources: u32,
     pub events: u32,
 }
+
+// The limits of every record.
+pub const BOARD: Limits = Limits {
+    sources: MOST_SOURCES,
+    events: MOST_EVENTS as u32,
+};
 
 // The question that was answered no and the place; 0 and 0 where none was.
 pub struct Verdict {
@@ -70,7 +80,7 @@ fn read_words(bytes: &[u8], k: usize, n: usize, to: &mut [u32])
 // Questions 6 and 7 of n events in the bytes of a record.
 fn walk_bytes(bytes: &[u8], n: usize) -> Verdict
     requires { ⌜ length (now bytes) ≡ lengthOf n ⌝ }
-    ensures { λ r. ⌜ r ≡ walk (wordsFrom (now (bytes .entry)) 2 n) (wordsFrom (now (bytes .entry)) (2 + n) n) ⌝ }
+    ensures { λ r. ⌜ r ≡ walk shapeOf (wordsFrom (now (bytes .entry)) 2 n) (wordsFrom (now (bytes .entry)) (2 + n) n) ⌝ }
 {
     let mut i: usize = 0;
     let verdict = loop {
@@ -160,13 +170,5 @@ pub fn read(bytes: &[u8], heads: &mut [u32], values: &mut [u32]) -> ReadAnswer
     ensures { λ _. ⌜ now (heads .exit) ≡ readHeads board (now (bytes .entry)) (now (heads .entry)) (now (values .entry)) ⌝ }
     ensures { λ _. ⌜ now (values .exit) ≡ readValues board (now (bytes .entry)) (now (heads .entry)) (now (values .entry)) ⌝ }
 {
-    read_within(
-        Limits {
-            sources: MOST_SOURCES,
-            events: MOST_EVENTS,
-        },
-        bytes,
-        heads,
-        values,
-    )
+    read_within(BOARD, bytes, heads, values)
 }

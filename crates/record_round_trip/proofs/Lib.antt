@@ -1,3 +1,3 @@
 -- Laws of the round trip: over the rules, and of the two calls.
 pub mod RoundTrip
-pub mod Trips
+pub mod Calls

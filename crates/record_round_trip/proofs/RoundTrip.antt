@@ -7,12 +7,13 @@ use borrow.Author.Tests.{le-leb, eq-eqb}
 use lib.Dec.{leb}
 use lib.ListN.{length, getD, drop, length-append, length-drop, take-append-drop}
 use lib.Seq.{take-at, drop-at, take-all, take-length, drop-drop}
+use Rattle.event.specs.Event.{shapeOf}
 use Rattle.record.specs.declared.Limits.{Limits}
 use Rattle.record.specs.Words.{wordsOf}
-use Rattle.record.specs.Record.{recordOf, countOf, sourcesOf, headsOf, valuesOf}
-use Rattle.record.specs.Questions.{ask, noRefusal, lengthOf, arraysHold, walk, readVerdict, writeVerdict}
+use Rattle.record.specs.Record.{recordOf, countOf, sourcesOf, headsOf, valuesOf, lengthOf}
+use Rattle.record.specs.Questions.{question, noRefusal, arraysHold, walk, readVerdict, writeVerdict}
 use Rattle.record.specs.Answers.{readAnswer, readHeads, readValues, writeAnswer, writtenBytes}
-use Rattle.record_round_trip.specs.Trips.{ReadsBack, WritesBack}
+use Rattle.record_round_trip.specs.RoundTrip.{ReadsBack, WritesBack}
 use Rattle.record.proofs.Words.{Below, length-bytes, length-words, words-of-bytes, bytes-of-words}
 use Rattle.record.proofs.Walk.{walk-clear, walk-yes, heads-length, equally-many}
 use Rattle.record.proofs.Questions.{Readable, readable, Writable, writable}
@@ -56,10 +57,10 @@ module _ (sources : ℕ) (heads values : List ℕ) (same : length heads ≡ leng
 
   -- For everything the writer accepts, reading what it wrote asks only for room.
   pub reads-written : (limits : Limits) (space headPlaces valuePlaces : ℕ) → Writable limits sources heads values space
-      → readVerdict limits written headPlaces valuePlaces ≡ ask 5 (arraysHold (length heads) headPlaces valuePlaces) noRefusal
+      → readVerdict limits written headPlaces valuePlaces ≡ question 5 (arraysHold (length heads) headPlaces valuePlaces) noRefusal
   unfolding readVerdict
   reads-written limits space hp vp w =
-      let all : walk heads values ≡ noRefusal = walk-yes 0 heads values same (walk-clear heads values same (w .events)) in
+      let all : walk shapeOf heads values ≡ noRefusal = walk-yes shapeOf 0 heads values same (walk-clear shapeOf heads values same (w .events)) in
       let eight : 8 ≤ lengthOf (length heads) = omega arith in
       rw (
         heads-back,
@@ -107,11 +108,11 @@ module _ (limits : Limits) (bytes : List ℕ) (headPlaces valuePlaces : ℕ) (by
       let whole : length bytes % 4 ≡ 0 = omega arith in
       rw (heads-count, split) (bytes-of-words bytes byte whole)
 
-  pub writes-read : (space : ℕ) → writeVerdict limits (sourcesOf bytes) (headsOf bytes) (valuesOf bytes) space ≡ ask 5 (leb (length bytes) space) noRefusal
+  pub writes-read : (space : ℕ) → writeVerdict limits (sourcesOf bytes) (headsOf bytes) (valuesOf bytes) space ≡ question 5 (leb (length bytes) space) noRefusal
   unfolding writeVerdict
   writes-read space =
       let same : length (headsOf bytes) ≡ length (valuesOf bytes) = equally-many bytes (countOf bytes) (r .whole) in
-      let all : walk (headsOf bytes) (valuesOf bytes) ≡ noRefusal = walk-yes 0 _ _ same (walk-clear _ _ same (r .events)) in
+      let all : walk shapeOf (headsOf bytes) (valuesOf bytes) ≡ noRefusal = walk-yes shapeOf 0 _ _ same (walk-clear shapeOf _ _ same (r .events)) in
       rw (all, eq-eqb _ _ same, heads-count, ← r .whole, le-leb _ _ (r .two), le-leb _ _ (r .most), le-leb _ _ (r .few))
 
 -- The round trip: for everything the writer accepts, reading what it wrote returns n, N, heads and values.

@@ -1,2 +1,2 @@
 -- What a record written and read, and one read and written, answer and leave.
-pub mod Trips
+pub mod RoundTrip

@@ -4,7 +4,7 @@ ghost use mathlib.Core.Path.{_≡_};
 ghost use lib.ListN.{length};
 ghost use Rattle.record.specs.Record.{board};
 ghost use Rattle.record.specs.Answers.{readNumbers, readHeads, readValues, writeNumbers, writtenBytes};
-ghost use Rattle.record_round_trip.specs.Trips.{writeReadAnswer, writeReadHeads, writeReadValues, ReadsBack, readWriteAnswer, readWriteBytes, WritesBack};
+ghost use Rattle.record_round_trip.specs.RoundTrip.{writeReadAnswer, writeReadHeads, writeReadValues, ReadsBack, readWriteAnswer, readWriteBytes, WritesBack};
 use record::ReadAnswer;
 use record::WriteAnswer;
 

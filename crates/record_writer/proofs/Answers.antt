@@ -6,11 +6,12 @@ use mathlib.Core.List.{List, [], _∷_}
 use borrow.Author.Tests.{le-leb, lt-leb, eq-eqb, ne-eqb, not-true, not-false}
 use lib.ListN.{length}
 use Rattle.buffers.specs.Filled.{filled}
+use Rattle.event.specs.Event.{shapeOf}
 use Rattle.record.specs.declared.Limits.{Limits}
 use Rattle.record.specs.declared.Verdict.{Verdict}
-use Rattle.record.specs.Record.{recordOf}
-use Rattle.record.specs.Questions.{verdict, sourcesInRange, lengthOf, walk, writeVerdict}
-use Rattle.record.specs.Answers.{accepted, refused, writeAnswer, writtenBytes}
+use Rattle.record.specs.Record.{recordOf, lengthOf}
+use Rattle.record.specs.Questions.{verdict, sourcesInRange, walk, writeVerdict}
+use Rattle.record.specs.Answers.{doneWith, refusedAt, writeAnswer, writtenBytes}
 
 -- The verdict of each no, given the answers before it as the code has them.
 module _ (limits : Limits) (sources : ℕ) (heads values : List ℕ) (space : ℕ) where
@@ -33,18 +34,18 @@ module _ (limits : Limits) (sources : ℕ) (heads values : List ℕ) (space : �
         unfolding writeVerdict
         write-no-5 h = rw (not-false (sourcesInRange limits sources) q2, le-leb _ _ q3, eq-eqb _ _ q4, lt-leb _ _ h)
 
-        pub write-walk : lengthOf (length heads) ≤ space → walk heads values ≡ writeVerdict limits sources heads values space
+        pub write-walk : lengthOf (length heads) ≤ space → walk shapeOf heads values ≡ writeVerdict limits sources heads values space
         unfolding writeVerdict
         write-walk h = rw (not-false (sourcesInRange limits sources) q2, le-leb _ _ q3, eq-eqb _ _ q4, le-leb _ _ h)
 
 -- What is answered and left, refused and accepted.
 module _ (limits : Limits) (sources : ℕ) (heads values bytes : List ℕ) {v : Verdict} (e : v ≡ writeVerdict limits sources heads values (length bytes)) where
   pub write-refused : (v .refusal ≡ 0 → ⊥)
-      → (refused (v .refusal) (v .place) ≡ writeAnswer limits sources heads values (length bytes))
+      → (refusedAt (v .refusal) (v .place) ≡ writeAnswer limits sources heads values (length bytes))
       × (bytes ≡ writtenBytes limits sources heads values bytes)
   write-refused z = rw (← e, ne-eqb _ _ z) (refl, refl)
 
   pub write-accepted : {bs : List ℕ} → v .refusal ≡ 0 → bs ≡ filled (recordOf sources heads values) bytes
-      → (accepted (lengthOf (length heads) ∷ []) ≡ writeAnswer limits sources heads values (length bytes))
+      → (doneWith (lengthOf (length heads) ∷ []) ≡ writeAnswer limits sources heads values (length bytes))
       × (bs ≡ writtenBytes limits sources heads values bytes)
   write-accepted z eb = rw (eb, ← e, eq-eqb _ _ z) (refl, refl)

@@ -9,8 +9,7 @@ use lib.Seq.{sets, take-suc, length-take-le}
 use Rattle.buffers.proofs.Stores.{sets-append, sets-then, sets-filled}
 use Rattle.buffers.specs.Filled.{filled}
 use Rattle.record.specs.Words.{bytesOf, bytesOfWords}
-use Rattle.record.specs.Record.{recordOf}
-use Rattle.record.specs.Questions.{lengthOf}
+use Rattle.record.specs.Record.{recordOf, lengthOf}
 use Rattle.record.proofs.Words.{length-bytes}
 
 bytes-append : (xs ys : List ℕ) → bytesOfWords (xs ++ ys) ≡ bytesOfWords xs ++ bytesOfWords ys

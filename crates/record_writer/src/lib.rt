@@ -5,13 +5,13 @@ ghost use Prim.Native.Nat.{_+_, _*_, _^_, _≤_, _<_};
 ghost use lib.ListN.{length};
 ghost use lib.Seq.{sets};
 ghost use Rattle.buffers.specs.Filled.{filled};
+ghost use Rattle.event.specs.Event.{shapeOf};
 ghost use Rattle.record.specs.Words.{bytesOf, bytesOfWords};
-ghost use Rattle.record.specs.Record.{board, recordOf};
-ghost use Rattle.record.specs.Questions.{lengthOf, walk, writeVerdict};
+ghost use Rattle.record.specs.Record.{board, recordOf, lengthOf};
+ghost use Rattle.record.specs.Questions.{walk, writeVerdict};
 ghost use Rattle.record.specs.Answers.{writeNumbers, writeAnswer, writtenBytes};
+use record::BOARD;
 use record::Limits;
-use record::MOST_EVENTS;
-use record::MOST_SOURCES;
 use record::Verdict;
 use record::WriteAnswer;
 
@@ -55,7 +55,7 @@ fn put_record(sources: u32, heads: &[u32], values: &[u32], bytes: &mut [u8])
 // Questions 6 and 7 of the events in two arrays.
 fn walk_arrays(heads: &[u32], values: &[u32]) -> Verdict
     requires { ⌜ length (now heads) ≡ length (now values) ⌝ }
-    ensures { λ r. ⌜ r ≡ walk (now (heads .entry)) (now (values .entry)) ⌝ }
+    ensures { λ r. ⌜ r ≡ walk shapeOf (now (heads .entry)) (now (values .entry)) ⌝ }
 {
     let mut i: usize = 0;
     let verdict = loop {
@@ -116,11 +116,11 @@ fn write_within(
     ensures { λ r. ⌜ writeNumbers r ≡ writeAnswer limits sources (now (heads .entry)) (now (values .entry)) (length (now (bytes .entry))) ⌝ }
     ensures { λ _. ⌜ now (bytes .exit) ≡ writtenBytes limits sources (now (heads .entry)) (now (values .entry)) (now (bytes .entry)) ⌝ }
 {
-    let asked = ask_writing(limits, sources, heads, values, bytes.len());
-    if asked.refusal != 0 {
+    let verdict = ask_writing(limits, sources, heads, values, bytes.len());
+    if verdict.refusal != 0 {
         return WriteAnswer::Refused {
-            refusal: asked.refusal,
-            place: asked.place,
+            refusal: verdict.refusal,
+            place: verdict.place,
         };
     }
     put_record(sources, heads, values, bytes);
@@ -134,14 +134,5 @@ pub fn write(sources: u32, heads: &[u32], values: &[u32], bytes: &mut [u8]) -> W
     ensures { λ r. ⌜ writeNumbers r ≡ writeAnswer board sources (now (heads .entry)) (now (values .entry)) (length (now (bytes .entry))) ⌝ }
     ensures { λ _. ⌜ now (bytes .exit) ≡ writtenBytes board sources (now (heads .entry)) (now (values .entry)) (now (bytes .entry)) ⌝ }
 {
-    write_within(
-        Limits {
-            sources: MOST_SOURCES,
-            events: MOST_EVENTS,
-        },
-        sources,
-        heads,
-        values,
-        bytes,
-    )
+    write_within(BOARD, sources, heads, values, bytes)
 }

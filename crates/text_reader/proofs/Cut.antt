@@ -9,9 +9,10 @@ use borrow.Author.Tests.{leb-true, ltb-true, ltb-false, lt-leb, ne-eqb}
 use lib.Dec.{eqb, leb, ltb}
 use lib.ListN.{length, take, length-append}
 use lib.Seq.{take-nil, length-take-le}
+use Rattle.record.specs.Record.{mostEvents}
 use Rattle.text_reader.specs.Lines.{lineFeed, colon, before, after, linesIn}
 use Rattle.text_reader.specs.Numbers.{isNumber, allDigits}
-use Rattle.text_reader.specs.Reading.{headPart, valuePart, isWord, isSources, isEvent, lastLine, firstBadFrom, firstBad}
+use Rattle.text_reader.specs.Reading.{headPart, valuePart, isWord, isSources, isEvent, mostLines, firstBadFrom, firstBad, textSize}
 use Rattle.text_reader.specs.Answers.{toRecordAnswer, toRecordBytes}
 use Rattle.text_reader.proofs.Digits.{and-true}
 use Rattle.text_reader.proofs.Sentences.{split-mark}
@@ -80,9 +81,9 @@ cut-out mark text zero h = refl
 cut-out mark [] (suc m) h = absurd (omega arith)
 cut-out mark (byte ∷ text) (suc m) h = out-step (eqb byte mark) byte m (before mark text) (before mark (take m text)) h (cut-out mark text m)
 
--- One line: what follows a good one is asked next, and a bad one's number is k.
-abbrev ask : (List ℕ → Bool) → ℕ → (List ℕ → ℕ) → List ℕ → ℕ
-ask good k rest text = cond (good (before lineFeed text)) (rest (after lineFeed text)) k
+-- One line: after a good one comes the rest, and a bad one's number is k.
+abbrev lineThen : (List ℕ → Bool) → ℕ → (List ℕ → ℕ) → List ℕ → ℕ
+lineThen good k rest text = cond (good (before lineFeed text)) (rest (after lineFeed text)) k
 
 abbrev Same : (List ℕ → ℕ) → List ℕ → ℕ → Type 0
 Same f text m = (f (take m text) ≡ f text) × (f text ≡ 0 → ⊥)
@@ -102,7 +103,7 @@ module _ (good : List ℕ → Bool) (k : ℕ) (rest : List ℕ → ℕ) (most ne
       by-case false e = refl
 
   -- The line ends before the cut.
-  ends : length line < m → Same (ask good k rest) text m
+  ends : length line < m → Same (lineThen good k rest) text m
   ends h = by-case (good line) refl
     where
       split : (text ≡ line ++ lineFeed ∷ after lineFeed text) ⊎ ((line ≡ text) × (after lineFeed text ≡ []))
@@ -110,7 +111,7 @@ module _ (good : List ℕ → Bool) (k : ℕ) (rest : List ℕ → ℕ) (most ne
       split (inl e) = ap length e ∙ length-append line (lineFeed ∷ after lineFeed text)
       split (inr e) = absurd (omega (arith, ap length (e .0)))
 
-      by-case : (g : Bool) → good line ≡ g → Same (ask good k rest) text m
+      by-case : (g : Bool) → good line ≡ g → Same (lineThen good k rest) text m
       by-case false e = rw (cut-before lineFeed text m h, e) (refl, nonzero)
       by-case true e =
           let n : ℕ = m - suc (length line) in
@@ -119,16 +120,16 @@ module _ (good : List ℕ → Bool) (k : ℕ) (rest : List ℕ → ℕ) (most ne
           rw (cut-before lineFeed text m h, e, cut-after lineFeed text m h) (next n after-n within-n)
 
   -- The line goes on past the cut.
-  goes-on : m ≤ length line → Same (ask good k rest) text m
+  goes-on : m ≤ length line → Same (lineThen good k rest) text m
   goes-on h =
       let cut : most < length (before lineFeed (take m text)) = omega (arith, cut-out lineFeed text m h) in
       let whole : most < length line = omega arith in
       rw (long-bad (before lineFeed (take m text)) cut, long-bad line whole) (refl, nonzero)
 
-  line-same : Same (ask good k rest) text m
+  line-same : Same (lineThen good k rest) text m
   line-same = by-case (ltb (length line) m) refl
     where
-      by-case : (g : Bool) → ltb (length line) m ≡ g → Same (ask good k rest) text m
+      by-case : (g : Bool) → ltb (length line) m ≡ g → Same (lineThen good k rest) text m
       by-case true e = ends (ltb-true _ _ e)
       by-case false e = goes-on (ltb-false _ _ e)
 
@@ -136,44 +137,44 @@ module _ (good : List ℕ → Bool) (k : ℕ) (rest : List ℕ → ℕ) (most ne
 abbrev bad : ℕ → List ℕ → ℕ
 bad k text = firstBadFrom k (linesIn text)
 
-asks-event : (k : ℕ) (text : List ℕ) → 0 < length text → 2 ≤ k → bad k text ≡ ask (λ l. leb k lastLine && isEvent l) k (bad (suc k)) text
+bad-event : (k : ℕ) (text : List ℕ) → 0 < length text → 2 ≤ k → bad k text ≡ lineThen (λ l. leb k mostLines && isEvent l) k (bad (suc k)) text
 unfolding firstBadFrom
-asks-event k text h two = let one : k ≡ 1 → ⊥ = λ z. omega arith in rw (lines-first text h, ne-eqb k 1 one)
+bad-event k text h two = let one : k ≡ 1 → ⊥ = λ z. omega arith in rw (lines-first text h, ne-eqb k 1 one)
 
-events-same : (j k m : ℕ) (text : List ℕ) → k + j ≡ 4002 → 2 ≤ k → 18 * j < m → m ≤ length text → Same (bad k) text m
+events-same : (j k m : ℕ) (text : List ℕ) → k + j ≡ mostLines + 1 → 2 ≤ k → 18 * j < m → m ≤ length text → Same (bad k) text m
 events-same zero k m text e two late inside =
-    let over : lastLine < k = omega arith in
+    let over : mostLines < k = omega arith in
     let whole : 0 < length text = omega arith in
     let part : 0 < length (take m text) = rw (length-take-le m text inside) late in
-    let cut : bad k (take m text) ≡ k = asks-event k (take m text) part two ∙ (rw (lt-leb k lastLine over)) in
-    let all : bad k text ≡ k = asks-event k text whole two ∙ (rw (lt-leb k lastLine over)) in
+    let cut : bad k (take m text) ≡ k = bad-event k (take m text) part two ∙ (rw (lt-leb k mostLines over)) in
+    let all : bad k text ≡ k = bad-event k text whole two ∙ (rw (lt-leb k mostLines over)) in
     (cut ∙ sym all, (λ z. omega (arith, sym all ∙ z)))
 events-same (suc j) k m text e two late inside =
     let whole : 0 < length text = omega arith in
     let part : 0 < length (take m text) = rw (length-take-le m text inside) (omega arith) in
     let late′ : 18 + 18 * j < m = omega arith in
-    let e′ : suc k + j ≡ 4002 = omega arith in
+    let e′ : suc k + j ≡ mostLines + 1 = omega arith in
     let two′ : 2 ≤ suc k = omega arith in
-    let same = line-same (λ l. leb k lastLine && isEvent l) k (bad (suc k)) 18 (18 * j) m text (λ z. omega arith)
-    (λ l h. event-short l (and-true (leb k lastLine) (isEvent l) h .1)) late′ inside
+    let same = line-same (λ l. leb k mostLines && isEvent l) k (bad (suc k)) 18 (18 * j) m text (λ z. omega arith)
+    (λ l h. event-short l (and-true (leb k mostLines) (isEvent l) h .1)) late′ inside
     (λ n a b. events-same j (suc k) n (after lineFeed text) e′ two′ a b) in
-    (asks-event k (take m text) part two ∙ same .0 ∙ sym (asks-event k text whole two), (λ z. same .1 (sym (asks-event k text whole two) ∙ z)))
+    (bad-event k (take m text) part two ∙ same .0 ∙ sym (bad-event k text whole two), (λ z. same .1 (sym (bad-event k text whole two) ∙ z)))
 
 -- The whole text.
-asks-sources : (text : List ℕ) → firstBad text ≡ ask isSources 1 (bad 2) text
+bad-sources : (text : List ℕ) → firstBad text ≡ lineThen isSources 1 (bad 2) text
 unfolding firstBadFrom
-asks-sources text = rw (lines-all text)
+bad-sources text = rw (lines-all text)
 
 -- The longest good text has 72,004 bytes: 4 of line 1, and 18 of each event. A longer one has a bad line, and where it is cut after more than that its first bad line is the same.
-pub cut-same : (text : List ℕ) (m : ℕ) → 72004 < m → m ≤ length text → (firstBad (take m text) ≡ firstBad text) × (firstBad text ≡ 0 → ⊥)
+pub cut-same : (text : List ℕ) (m : ℕ) → textSize < m → m ≤ length text → (firstBad (take m text) ≡ firstBad text) × (firstBad text ≡ 0 → ⊥)
 cut-same text m late inside =
-    let late′ : 4 + 72000 < m = late in
-    let same = line-same isSources 1 (bad 2) 4 72000 m text (λ z. omega arith) sources-short late′ inside
-    (λ n a b. events-same 4000 2 n (after lineFeed text) refl (omega arith) a b) in
-    (asks-sources (take m text) ∙ same .0 ∙ sym (asks-sources text), (λ z. same .1 (sym (asks-sources text) ∙ z)))
+    let late′ : 4 + 18 * mostEvents < m = late in
+    let same = line-same isSources 1 (bad 2) 4 (18 * mostEvents) m text (λ z. omega arith) sources-short late′ inside
+    (λ n a b. events-same mostEvents 2 n (after lineFeed text) refl (omega arith) a b) in
+    (bad-sources (take m text) ∙ same .0 ∙ sym (bad-sources text), (λ z. same .1 (sym (bad-sources text) ∙ z)))
 
 -- So the record that is made of it, and the answer, are those of the whole text.
-pub cut-answer : (text : List ℕ) (m space : ℕ) (bytes : List ℕ) → 72004 < m → m ≤ length text
+pub cut-answer : (text : List ℕ) (m space : ℕ) (bytes : List ℕ) → textSize < m → m ≤ length text
     → (toRecordAnswer (take m text) space ≡ toRecordAnswer text space) × (toRecordBytes (take m text) bytes ≡ toRecordBytes text bytes)
 cut-answer text m space bytes late inside =
     let same = cut-same text m late inside in

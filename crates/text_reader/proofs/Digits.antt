@@ -6,12 +6,13 @@ use native.Mathlib.Nat.{pow-suc, suc-mul, mul-le-mul, pow-le-pow-right, lt-of-lt
 use native.Mathlib.Numerals.{add-one}
 use native.Mathlib.Omega.{arith}
 use mathlib.Core.List.{List}
-use borrow.Author.Tests.{lt-ltb, le-ltb, le-leb, lt-leb, leb-true, not-true, not-false}
+use borrow.Author.Tests.{lt-ltb, le-ltb, leb-true, not-true, not-false}
 use lib.Dec.{lit<, ltb, leb}
 use lib.ListN.{length, getD, drop, drop-of-length-le}
 use lib.Seq.{drop-cons}
 use Rattle.text_reader.specs.declared.Number.{Number}
-use Rattle.text_reader.specs.Numbers.{within, digitOf, allDigits, isNumber, numberAfter, numberOf, found, numberIn}
+use Rattle.text_reader.specs.Numbers.{allDigits, isNumber, found, numberIn}
+use Rattle.digits.specs.Digits.{within, digitOf, numberAfter, numberOf}
 
 pub and-true : (a b : Bool) → a && b ≡ true → (a ≡ true) × (b ≡ true)
 and-true true b h = (refl, h)
@@ -95,14 +96,3 @@ found-value base most text = go (isNumber base most text)
         → cond good (found true (numberOf base text)) (found false 0) .value ≡ numberOf base text
     go true h = refl
     go false h = absurd (true≢false (sym h))
-
--- The signs of digits: 0 to 9, and a to f.
-pub low-sign : (d : ℕ) → d < 10 → digitOf (48 + d) ≡ d
-unfolding digitOf
-low-sign d h = rw (le-leb 48 (48 + d) (omega arith), le-leb (48 + d) 57 (omega arith)) (omega arith)
-
-pub high-sign : (d : ℕ) → 10 ≤ d → d < 16 → digitOf (87 + d) ≡ d
-unfolding digitOf
-high-sign d l h =
-    rw (le-leb 48 (87 + d) (omega arith), lt-leb (87 + d) 57 (omega arith), le-leb 97 (87 + d) (omega arith), le-leb (87 + d) 102 (omega arith))
-    (omega arith)

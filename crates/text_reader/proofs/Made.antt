@@ -9,15 +9,15 @@ use lib.ListN.{length, take, drop}
 use lib.Seq.{take-length}
 use Rattle.record.specs.declared.WriteAnswer.{WriteAnswer}
 use Rattle.record.specs.declared.WriteAnswer.the-variants as writing
-use Rattle.record.specs.Record.{board}
-use Rattle.record.specs.Answers.{accepted, refused, writeNumbers, writeAnswer, writtenBytes}
+use Rattle.record.specs.Record.{board, recordSize}
+use Rattle.record.specs.Answers.{doneWith, refusedAt, writeNumbers, writeAnswer, writtenBytes}
 use Rattle.record.proofs.Answers.{write-done}
 use Rattle.record.proofs.Questions.{writable}
 use Rattle.text_reader.specs.declared.Number.{Number}
 use Rattle.text_reader.specs.Lines.{lineFeed, before, after, linesIn, linesOf}
 use Rattle.text_reader.specs.Numbers.{numberIn}
-use Rattle.text_reader.specs.Reading.{headIn, valueIn, firstBadFrom, firstBad, sourcesSaid, headsSaid, valuesSaid}
-use Rattle.text_reader.specs.Answers.{told, badLine, toRecordAnswer, toRecordBytes}
+use Rattle.text_reader.specs.Reading.{headIn, valueIn, firstBadFrom, firstBad, sourcesOfText, headsOfText, valuesOfText}
+use Rattle.text_reader.specs.Answers.{goodLines, badLine, toRecordAnswer, toRecordBytes}
 use Rattle.text_reader.proofs.Marks.{up-to, from-past, lines-all}
 use Rattle.text_reader.proofs.Digits.{found-ok, found-value}
 
@@ -42,7 +42,7 @@ module _ (text : List ℕ) {end : ℕ} (e : end ≡ length (before lineFeed text
     pub first-good : {bad : ℕ} → bad ≡ firstBadFrom 2 (linesIn (drop next text)) → bad ≡ firstBad text
     first-good eb = rw (eb, past-first) (sym (bad-first ∙ rw (not-false (v .ok) z)))
 
-    pub sources-read : v .value ≡ sourcesSaid text
+    pub sources-read : v .value ≡ sourcesOfText text
     sources-read = rw (lines-all text, first-found) (found-value 10 3 (before lineFeed text) (ap (λ (w : Number). w .ok) (sym first-found) ∙ not-false (v .ok) z))
 
     part-read : (f : List ℕ → ℕ) {n : ℕ} (a : List ℕ) → n ≡ length (linesIn (drop next text))
@@ -50,33 +50,33 @@ module _ (text : List ℕ) {end : ℕ} (e : end ≡ length (before lineFeed text
     part-read f a en ea = rw (lines-all text, ← past-first) (ea ∙ rw (en, take-length (linesIn (drop next text))))
 
     pub heads-read : {n : ℕ} (a : List ℕ) → n ≡ length (linesIn (drop next text))
-        → take n a ≡ map headIn (take n (linesIn (drop next text))) → take n a ≡ headsSaid text
+        → take n a ≡ map headIn (take n (linesIn (drop next text))) → take n a ≡ headsOfText text
     heads-read = part-read headIn
 
     pub values-read : {n : ℕ} (a : List ℕ) → n ≡ length (linesIn (drop next text))
-        → take n a ≡ map valueIn (take n (linesIn (drop next text))) → take n a ≡ valuesSaid text
+        → take n a ≡ map valueIn (take n (linesIn (drop next text))) → take n a ≡ valuesOfText text
     values-read = part-read valueIn
 
 -- A text that was read.
 module _ (text bytes : List ℕ) {bad : ℕ} (e : bad ≡ firstBad text) where
   -- A line is bad.
-  pub not-made : (bad ≡ 0 → ⊥) → (badLine bad ≡ toRecordAnswer text 32008) × (bytes ≡ toRecordBytes text bytes)
+  pub not-made : (bad ≡ 0 → ⊥) → (badLine bad ≡ toRecordAnswer text recordSize) × (bytes ≡ toRecordBytes text bytes)
   not-made z = rw (← e, ne-eqb bad 0 z) (refl, refl)
 
   -- None is, and what it says was written.
-  module _ (z : bad ≡ 0) (long : length bytes ≡ 32008) {sources : ℕ} {hs vs d : List ℕ} (r : WriteAnswer)
-      (es : sources ≡ sourcesSaid text) (eh : hs ≡ headsSaid text) (ev : vs ≡ valuesSaid text)
+  module _ (z : bad ≡ 0) (long : length bytes ≡ recordSize) {sources : ℕ} {hs vs d : List ℕ} (r : WriteAnswer)
+      (es : sources ≡ sourcesOfText text) (eh : hs ≡ headsOfText text) (ev : vs ≡ valuesOfText text)
       (er : writeNumbers r ≡ writeAnswer board sources hs vs (length bytes)) (ed : d ≡ writtenBytes board sources hs vs bytes) where
-    made : (told 0 (writeNumbers r) ≡ toRecordAnswer text 32008) × (d ≡ toRecordBytes text bytes)
-    made = rw (← e, eq-eqb bad 0 z, ← es, ← eh, ← ev, ← long) (ap (told 0) er, ed)
+    made : (goodLines (writeNumbers r) ≡ toRecordAnswer text recordSize) × (d ≡ toRecordBytes text bytes)
+    made = rw (← e, eq-eqb bad 0 z, ← es, ← eh, ← ev, ← long) (ap goodLines er, ed)
 
     pub made-done : length d ≡ length bytes → {l : ℕ} → r ≡ writing.Done l
-        → (told 0 (accepted (l ∷ [])) ≡ toRecordAnswer text 32008) × ((d ≡ toRecordBytes text bytes) × (l ≤ length d))
+        → (goodLines (doneWith (l ∷ [])) ≡ toRecordAnswer text recordSize) × ((d ≡ toRecordBytes text bytes) × (l ≤ length d))
     made-done ld q =
         let done = write-done board sources hs vs (length bytes) er q in
         let w = writable board sources hs vs (length bytes) (done .0) in
-        (ap (λ (a : WriteAnswer). told 0 (writeNumbers a)) (sym q) ∙ made .0, (made .1, omega (arith, ld, w .holds, done .1)))
+        (ap (λ (a : WriteAnswer). goodLines (writeNumbers a)) (sym q) ∙ made .0, (made .1, omega (arith, ld, w .holds, done .1)))
 
     pub made-refused : {number place : ℕ} → r ≡ writing.Refused number place
-        → (told 0 (refused number place) ≡ toRecordAnswer text 32008) × (d ≡ toRecordBytes text bytes)
-    made-refused q = (ap (λ (a : WriteAnswer). told 0 (writeNumbers a)) (sym q) ∙ made .0, made .1)
+        → (goodLines (refusedAt number place) ≡ toRecordAnswer text recordSize) × (d ≡ toRecordBytes text bytes)
+    made-refused q = (ap (λ (a : WriteAnswer). goodLines (writeNumbers a)) (sym q) ∙ made .0, made .1)

@@ -9,11 +9,12 @@ use borrow.Author.Tests.{le-leb, lt-leb, leb-true, leb-false, ne-eqb, not-true, 
 use lib.ListN.{length, take, drop, set, length-drop, drop-of-length-le}
 use lib.Seq.{take-suc-set, drop-drop}
 use lib.Dec.{leb}
+use Rattle.record.specs.Record.{mostEvents}
 use Rattle.text_reader.specs.declared.Event.{Event}
 use Rattle.text_reader.specs.declared.Number.{Number}
 use Rattle.text_reader.specs.Lines.{lineFeed, before, after, linesIn}
 use Rattle.text_reader.specs.Numbers.{numberIn}
-use Rattle.text_reader.specs.Reading.{headPart, valuePart, isEvent, headIn, valueIn, eventIn, lastLine, firstBadFrom}
+use Rattle.text_reader.specs.Reading.{headPart, valuePart, isEvent, headIn, valueIn, eventIn, mostLines, firstBadFrom}
 use Rattle.text_reader.proofs.Marks.{up-to, from-past, rest-of, lines-first}
 use Rattle.text_reader.proofs.Digits.{and-true, found-ok, found-value}
 
@@ -69,19 +70,19 @@ and-false true = refl
 and-false false = refl
 
 -- The test that the code makes on line n + 2: whether it is bad.
-stops : (n : ℕ) (ok : Bool) {event : Bool} → leb 4000 n || not ok ≡ true → ok ≡ event → leb (n + 2) lastLine && event ≡ false
-stops n ok {event} e o = by-case (leb 4000 n) ok refl e o
+stops : (n : ℕ) (ok : Bool) {event : Bool} → leb mostEvents n || not ok ≡ true → ok ≡ event → leb (n + 2) mostLines && event ≡ false
+stops n ok {event} e o = by-case (leb mostEvents n) ok refl e o
   where
-    by-case : (full ok : Bool) → leb 4000 n ≡ full → full || not ok ≡ true → ok ≡ event → leb (n + 2) lastLine && event ≡ false
-    by-case true ok f e o = let m : lastLine < n + 2 = omega (arith, leb-true 4000 n f) in rw (lt-leb _ _ m)
-    by-case false ok f e o = rw (← o, not-true ok e) (and-false (leb (n + 2) lastLine))
+    by-case : (full ok : Bool) → leb mostEvents n ≡ full → full || not ok ≡ true → ok ≡ event → leb (n + 2) mostLines && event ≡ false
+    by-case true ok f e o = let m : mostLines < n + 2 = omega (arith, leb-true mostEvents n f) in rw (lt-leb _ _ m)
+    by-case false ok f e o = rw (← o, not-true ok e) (and-false (leb (n + 2) mostLines))
 
-pub goes : (n : ℕ) (ok : Bool) → leb 4000 n || not ok ≡ false → (n < 4000) × (ok ≡ true)
-goes n ok e = by-case (leb 4000 n) refl e
+pub goes : (n : ℕ) (ok : Bool) → leb mostEvents n || not ok ≡ false → (n < mostEvents) × (ok ≡ true)
+goes n ok e = by-case (leb mostEvents n) refl e
   where
-    by-case : (full : Bool) → leb 4000 n ≡ full → full || not ok ≡ false → (n < 4000) × (ok ≡ true)
+    by-case : (full : Bool) → leb mostEvents n ≡ full → full || not ok ≡ false → (n < mostEvents) × (ok ≡ true)
     by-case true f e = absurd (true≢false e)
-    by-case false f e = (leb-false 4000 n f, not-false ok e)
+    by-case false f e = (leb-false mostEvents n f, not-false ok e)
 
 -- At a line of which the event was read.
 module _ (text : List ℕ) (at : ℕ) (h : at < length text) where
@@ -94,23 +95,23 @@ module _ (text : List ℕ) (at : ℕ) (h : at < length text) where
   here : linesIn (drop at text) ≡ line ∷ others
   here = let l : 0 < length (drop at text) = simp length-drop (omega arith) in lines-first (drop at text) l
 
-  bad-here : (n : ℕ) → firstBadFrom (n + 2) (linesIn (drop at text)) ≡ cond (leb (n + 2) lastLine && isEvent line) (firstBadFrom (suc (n + 2)) others) (n + 2)
+  bad-here : (n : ℕ) → firstBadFrom (n + 2) (linesIn (drop at text)) ≡ cond (leb (n + 2) mostLines && isEvent line) (firstBadFrom (suc (n + 2)) others) (n + 2)
   unfolding firstBadFrom
   bad-here n = let two : n + 2 ≡ 1 → ⊥ = λ e. omega arith in rw (here, ne-eqb (n + 2) 1 two)
 
   -- Line 4,002, or a line that is no event.
-  pub bad-stop : (n : ℕ) {v : Event} → v ≡ eventIn line → leb 4000 n || not (v .ok) ≡ true → n + 2 ≡ firstBadFrom (n + 2) (linesIn (drop at text))
+  pub bad-stop : (n : ℕ) {v : Event} → v ≡ eventIn line → leb mostEvents n || not (v .ok) ≡ true → n + 2 ≡ firstBadFrom (n + 2) (linesIn (drop at text))
   bad-stop n {v} ev e = sym (bad-here n ∙ rw (stops n (v .ok) e (ap (λ (w : Event). w .ok) ev ∙ event-ok line)))
 
   -- A line that is one.
   module _ (next : ℕ) (en : drop next text ≡ after lineFeed (drop at text)) (n : ℕ)
-      (v : Event) (ev : v ≡ eventIn line) (more : leb 4000 n || not (v .ok) ≡ false) where
-    goes-on : (n < 4000) × (eventIn line .ok ≡ true)
+      (v : Event) (ev : v ≡ eventIn line) (more : leb mostEvents n || not (v .ok) ≡ false) where
+    goes-on : (n < mostEvents) × (eventIn line .ok ≡ true)
     goes-on = let g = goes n (v .ok) more in (g .0, ap (λ (w : Event). w .ok) (sym ev) ∙ g .1)
 
     pub good-turn : firstBadFrom (n + 2) (linesIn (drop at text)) ≡ firstBadFrom (n + 1 + 2) (linesIn (drop next text))
     good-turn =
-        let m : n + 2 ≤ lastLine = omega (arith, goes-on .0) in
+        let m : n + 2 ≤ mostLines = omega (arith, goes-on .0) in
         let k : suc (n + 2) ≡ n + 1 + 2 = omega arith in
         let z : isEvent line ≡ true = sym (event-ok line) ∙ goes-on .1 in
         bad-here n ∙ rw (le-leb _ _ m, z, k, en)

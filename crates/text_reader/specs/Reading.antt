@@ -1,11 +1,13 @@
 -- The text of a record: N in its first line, then a line head:value for each event.
-use Prim.Native.Nat.{ℕ, suc}
+use Prim.Native.Nat.{ℕ, suc, _+_, _*_}
 use mathlib.Core.Bool.{Bool, cond, _&&_}
 use mathlib.Core.List.{List, [], _∷_, map}
 use lib.ListN.{getD, drop}
 use lib.Dec.{leb, eqb}
+use Rattle.record.specs.Record.{mostEvents}
 use Rattle.text_reader.specs.Lines.{colon, before, after, linesOf}
-use Rattle.text_reader.specs.Numbers.{isNumber, numberOf, numberIn}
+use Rattle.text_reader.specs.Numbers.{isNumber, numberIn}
+use Rattle.digits.specs.Digits.{numberOf}
 use Rattle.text_reader.specs.declared.Event.{Event}
 
 -- Line 1: N in decimal, 1 to 3 digits.
@@ -44,13 +46,17 @@ eventIn line =
       value = numberIn 16 8 (valuePart line) .value;
     }
 
--- The last line of the longest text: line 1 and 4,000 events.
-abbrev pub lastLine : ℕ
-lastLine = 4001
+-- Line 1, and a line for each event.
+abbrev pub mostLines : ℕ
+mostLines = 1 + mostEvents
+
+-- The longest good text has 72,004 bytes: 4 of line 1, and 18 of each event.
+abbrev pub textSize : ℕ
+textSize = 4 + 18 * mostEvents
 
 -- Lines are numbered from 1. Line 4,002 is bad in itself.
 abbrev pub isGood : ℕ → List ℕ → Bool
-isGood k line = cond (eqb k 1) (isSources line) (leb k lastLine && isEvent line)
+isGood k line = cond (eqb k 1) (isSources line) (leb k mostLines && isEvent line)
 
 -- The number of the first bad line, where the first of these lines is line k; 0 where none is bad.
 unfoldable pub firstBadFrom : ℕ → List (List ℕ) → ℕ
@@ -61,15 +67,15 @@ abbrev pub firstBad : List ℕ → ℕ
 firstBad text = firstBadFrom 1 (linesOf text)
 
 -- What a text says that has no bad line: N is in its first line,
-abbrev pub sourcesSaid : List ℕ → ℕ
-sourcesSaid text = sourcesIn (getD (linesOf text) 0 [])
+abbrev pub sourcesOfText : List ℕ → ℕ
+sourcesOfText text = sourcesIn (getD (linesOf text) 0 [])
 
 -- and a head and a value in each line after it.
-abbrev pub eventLines : List ℕ → List (List ℕ)
-eventLines text = drop 1 (linesOf text)
+abbrev pub linesOfEvents : List ℕ → List (List ℕ)
+linesOfEvents text = drop 1 (linesOf text)
 
-abbrev pub headsSaid : List ℕ → List ℕ
-headsSaid text = map headIn (eventLines text)
+abbrev pub headsOfText : List ℕ → List ℕ
+headsOfText text = map headIn (linesOfEvents text)
 
-abbrev pub valuesSaid : List ℕ → List ℕ
-valuesSaid text = map valueIn (eventLines text)
+abbrev pub valuesOfText : List ℕ → List ℕ
+valuesOfText text = map valueIn (linesOfEvents text)

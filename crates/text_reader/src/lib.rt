@@ -4,11 +4,18 @@ ghost use mathlib.Core.Path.{_≡_};
 ghost use mathlib.Core.List.{map};
 ghost use Prim.Native.Nat.{_+_, _≤_, _<_, min};
 ghost use lib.ListN.{length, take, drop};
+ghost use Rattle.record.specs.Record.{mostEvents, recordSize};
 ghost use Rattle.text_reader.specs.Lines.{lineFeed, before, after, linesIn};
-ghost use Rattle.text_reader.specs.Numbers.{digitOf, numberIn};
-ghost use Rattle.text_reader.specs.Reading.{headIn, valueIn, eventIn, firstBadFrom, firstBad, sourcesSaid, headsSaid, valuesSaid};
-ghost use Rattle.text_reader.specs.Answers.{recordNumbers, toRecordAnswer, toRecordBytes, lengthMade};
+ghost use Rattle.text_reader.specs.Numbers.{numberIn};
+ghost use Rattle.digits.specs.Digits.{digitOf};
+ghost use Rattle.text_reader.specs.Reading.{headIn, valueIn, eventIn, firstBadFrom, firstBad, sourcesOfText, headsOfText, valuesOfText};
+ghost use Rattle.text_reader.specs.Answers.{recordNumbers, toRecordAnswer, toRecordBytes, recordLength};
+use record::MOST_EVENTS;
+use record::RECORD_SIZE;
 use record::WriteAnswer;
+
+// The bytes of the longest good text: 4 of line 1, and 18 of each event.
+pub const TEXT_SIZE: usize = 4 + 18 * MOST_EVENTS;
 
 // What making a record of a text answers: the record's length; the first bad line, from 1; or the refusal of the record's questions.
 pub enum RecordAnswer {
@@ -147,9 +154,9 @@ fn line_at(text: &[u8], from: usize) -> Line
 
 // Stores the heads and values of the lines from a place on, up to the first that is bad.
 fn read_events(text: &[u8], from: usize, heads: &mut [u32], values: &mut [u32]) -> Lines
-    requires { ⌜ (from ≤ length (now text)) × (4000 ≤ length (now heads)) × (4000 ≤ length (now values)) ⌝ }
+    requires { ⌜ (from ≤ length (now text)) × (mostEvents ≤ length (now heads)) × (mostEvents ≤ length (now values)) ⌝ }
     ensures { λ r. ⌜ r .bad ≡ firstBadFrom 2 (linesIn (drop from (now (text .entry)))) ⌝ }
-    ensures { λ r. ⌜ r .events ≤ 4000 ⌝ }
+    ensures { λ r. ⌜ r .events ≤ mostEvents ⌝ }
     ensures { λ r. ⌜ (r .bad ≡ 0 → r .events ≡ length (linesIn (drop from (now (text .entry))))) ⌝ }
     ensures { λ r. ⌜ take (r .events) (now (heads .exit)) ≡ map headIn (take (r .events) (linesIn (drop from (now (text .entry))))) ⌝ }
     ensures { λ r. ⌜ take (r .events) (now (values .exit)) ≡ map valueIn (take (r .events) (linesIn (drop from (now (text .entry))))) ⌝ }
@@ -162,7 +169,7 @@ fn read_events(text: &[u8], from: usize, heads: &mut [u32], values: &mut [u32]) 
         }
         let line = line_at(text, at);
         let event = line.event;
-        if (4000 <= n) | !event.ok {
+        if (MOST_EVENTS <= n) | !event.ok {
             break n + 2;
         }
         heads[n] = event.head;
@@ -175,12 +182,12 @@ fn read_events(text: &[u8], from: usize, heads: &mut [u32], values: &mut [u32]) 
 
 // Reads a text: the first bad line, 0 where none is; else N, and the heads and values, which fill the first places.
 fn read_text(text: &[u8], heads: &mut [u32], values: &mut [u32]) -> Listing
-    requires { ⌜ (4000 ≤ length (now heads)) × (4000 ≤ length (now values)) ⌝ }
+    requires { ⌜ (mostEvents ≤ length (now heads)) × (mostEvents ≤ length (now values)) ⌝ }
     ensures { λ r. ⌜ r .bad ≡ firstBad (now (text .entry)) ⌝ }
-    ensures { λ r. ⌜ r .events ≤ 4000 ⌝ }
-    ensures { λ r. ⌜ (r .bad ≡ 0 → (r .sources ≡ sourcesSaid (now (text .entry)))
-        × (take (r .events) (now (heads .exit)) ≡ headsSaid (now (text .entry)))
-        × (take (r .events) (now (values .exit)) ≡ valuesSaid (now (text .entry)))) ⌝ }
+    ensures { λ r. ⌜ r .events ≤ mostEvents ⌝ }
+    ensures { λ r. ⌜ (r .bad ≡ 0 → (r .sources ≡ sourcesOfText (now (text .entry)))
+        × (take (r .events) (now (heads .exit)) ≡ headsOfText (now (text .entry)))
+        × (take (r .events) (now (values .exit)) ≡ valuesOfText (now (text .entry)))) ⌝ }
 {
     let end = find(text, b'\n');
     let first = number_in(&text[..end], 10, 3);
@@ -200,13 +207,13 @@ fn read_text(text: &[u8], heads: &mut [u32], values: &mut [u32]) -> Listing
 }
 
 // Makes a record of a text: accepted, the record fills the first bytes; refused, all of them stay as they were.
-pub fn to_record(text: &[u8], bytes: &mut [u8; 32008]) -> RecordAnswer
-    ensures { λ r. ⌜ recordNumbers r ≡ toRecordAnswer (now (text .entry)) 32008 ⌝ }
+pub fn to_record(text: &[u8], bytes: &mut [u8; RECORD_SIZE]) -> RecordAnswer
+    ensures { λ r. ⌜ recordNumbers r ≡ toRecordAnswer (now (text .entry)) recordSize ⌝ }
     ensures { λ _. ⌜ now (bytes .exit) ≡ toRecordBytes (now (text .entry)) (now (bytes .entry)) ⌝ }
-    ensures { λ r. ⌜ lengthMade r ≤ length (now (bytes .exit)) ⌝ }
+    ensures { λ r. ⌜ recordLength r ≤ length (now (bytes .exit)) ⌝ }
 {
-    let mut heads: [u32; 4000] = [0; 4000];
-    let mut values: [u32; 4000] = [0; 4000];
+    let mut heads: [u32; MOST_EVENTS] = [0; MOST_EVENTS];
+    let mut values: [u32; MOST_EVENTS] = [0; MOST_EVENTS];
     let listing = read_text(text, &mut heads, &mut values);
     if listing.bad != 0 {
         return RecordAnswer::BadLine { line: listing.bad };

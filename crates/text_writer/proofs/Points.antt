@@ -2,19 +2,20 @@
 use mathlib.Core.Path.{_≡_, refl}
 use mathlib.Core.List.{[], _∷_}
 use Rattle.event.specs.Event.{shapeOf}
+use Rattle.event.specs.Listing.{listingSources, listingHeads, listingValues}
 use Rattle.digits.specs.Digits.{digitsTo}
 use Rattle.record.specs.Words.{wordsOf, bytesOfWords}
 use Rattle.record.specs.Record.{recordOf}
 use Rattle.record.specs.Questions.{readVerdict, walkFrom}
-use Rattle.record.specs.Answers.{accepted}
-use Rattle.text_reader.proofs.Points.{listing, heads, values}
+use Rattle.record.specs.Answers.{doneWith}
+use Rattle.text_reader.proofs.Points.{listing}
 use Rattle.text_writer.specs.Writing.{eventsText, textOf}
 use Rattle.text_writer.specs.Answers.{toTextAnswer}
 
-pub listing-told : textOf (recordOf 4 heads values) ≡ listing
+pub listing-text : textOf (recordOf listingSources listingHeads listingValues) ≡ listing
 unfolding eventsText digitsTo wordsOf bytesOfWords
-listing-told = refl
+listing-text = refl
 
-pub listing-length : toTextAnswer (recordOf 4 heads values) ≡ accepted (112 ∷ [])
+pub listing-length : toTextAnswer (recordOf listingSources listingHeads listingValues) ≡ doneWith (112 ∷ [])
 unfolding eventsText digitsTo wordsOf bytesOfWords readVerdict walkFrom shapeOf
 listing-length = refl

@@ -10,20 +10,20 @@ abbrev pub ended : List ℕ → List ℕ
 ended line = line ++ lineFeed ∷ []
 
 -- Line 1: N in decimal, in the fewest digits.
-abbrev pub sourcesLine : ℕ → List ℕ
-sourcesLine = decimal
+abbrev pub sourcesText : ℕ → List ℕ
+sourcesText = decimal
 
 -- A line for each event: head in 8 lower-case hexadecimal digits, a colon, value in the fewest.
-abbrev pub eventLine : ℕ → ℕ → List ℕ
-eventLine head value = hexadecimal 8 head ++ colon ∷ hexadecimal 1 value
+abbrev pub eventText : ℕ → ℕ → List ℕ
+eventText head value = hexadecimal 8 head ++ colon ∷ hexadecimal 1 value
 
 unfoldable pub eventsText : List ℕ → List ℕ → List ℕ
 eventsText [] values = []
 eventsText (head ∷ heads) [] = []
-eventsText (head ∷ heads) (value ∷ values) = ended (eventLine head value) ++ eventsText heads values
+eventsText (head ∷ heads) (value ∷ values) = ended (eventText head value) ++ eventsText heads values
 
 abbrev pub listingOf : ℕ → List ℕ → List ℕ → List ℕ
-listingOf sources heads values = ended (sourcesLine sources) ++ eventsText heads values
+listingOf sources heads values = ended (sourcesText sources) ++ eventsText heads values
 
 -- The text of a record.
 abbrev pub textOf : List ℕ → List ℕ

@@ -5,10 +5,12 @@ ghost use Prim.Native.Nat.{_+_, _*_, _≤_, _<_};
 ghost use lib.ListN.{length};
 ghost use lib.Seq.{sets};
 ghost use Rattle.buffers.specs.Filled.{filled};
-ghost use Rattle.text_writer.specs.Writing.{ended, eventLine, eventsText, listingOf};
-ghost use Rattle.text_writer.specs.Answers.{textNumbers, toTextAnswer, toTextBytes, lengthTold};
-ghost use Rattle.text_writer.specs.Trip.{ComesBack};
+ghost use Rattle.text_writer.specs.Writing.{ended, eventText, eventsText, listingOf};
+ghost use Rattle.text_writer.specs.Answers.{textNumbers, toTextAnswer, toTextBytes, textLength};
+ghost use Rattle.text_writer.specs.RoundTrip.{ComesBack};
+use record::MOST_EVENTS;
 use record::ReadAnswer;
+use text_reader::TEXT_SIZE;
 
 // What making a text of a record answers: the text's length; or the reader's refusal.
 pub enum TextAnswer {
@@ -19,8 +21,8 @@ pub enum TextAnswer {
 // Puts the line of an event into the text from a place on, and answers the place after it.
 fn put_event(text: &mut [u8], at: usize, head: u32, value: u32) -> usize
     requires { ⌜ at + 18 ≤ length (now text) ⌝ }
-    ensures { λ r. ⌜ r ≡ at + length (ended (eventLine head value)) ⌝ }
-    ensures { λ _. ⌜ now (text .exit) ≡ sets (now (text .entry)) at (ended (eventLine head value)) ⌝ }
+    ensures { λ r. ⌜ r ≡ at + length (ended (eventText head value)) ⌝ }
+    ensures { λ _. ⌜ now (text .exit) ≡ sets (now (text .entry)) at (ended (eventText head value)) ⌝ }
 {
     let a = digits::put_hex(text, at, 8, head);
     let b = digits::put_text(text, a, b":");
@@ -56,14 +58,14 @@ fn put_listing(text: &mut [u8], sources: u32, heads: &[u32], values: &[u32]) -> 
 }
 
 // Makes a text of a record: accepted, the text fills the first bytes; refused, all of them stay as they were.
-pub fn to_text(bytes: &[u8], text: &mut [u8; 72004]) -> TextAnswer
+pub fn to_text(bytes: &[u8], text: &mut [u8; TEXT_SIZE]) -> TextAnswer
     ensures { λ r. ⌜ textNumbers r ≡ toTextAnswer (now (bytes .entry)) ⌝ }
     ensures { λ _. ⌜ now (text .exit) ≡ toTextBytes (now (bytes .entry)) (now (text .entry)) ⌝ }
-    ensures { λ r. ⌜ lengthTold r ≤ length (now (text .exit)) ⌝ }
+    ensures { λ r. ⌜ textLength r ≤ length (now (text .exit)) ⌝ }
     ensures { λ _. ⌜ ComesBack (now (bytes .entry)) ⌝ }
 {
-    let mut heads: [u32; 4000] = [0; 4000];
-    let mut values: [u32; 4000] = [0; 4000];
+    let mut heads: [u32; MOST_EVENTS] = [0; MOST_EVENTS];
+    let mut values: [u32; MOST_EVENTS] = [0; MOST_EVENTS];
     let got = record::read(bytes, &mut heads, &mut values);
     match got {
         ReadAnswer::Done { events, sources } => {

@@ -1,12 +1,15 @@
 use lib.ListN.{length-set}
 use Rattle.claims.proofs.Playing.{machine-end, played-end, stored-end}
 use Prim.Native.Nat.{ℕ, _≤_, _<_, _-_}
-use mathlib.Core.Path.{_≡_, refl}
+use mathlib.Core.Path.{_≡_, refl, ap, _∙_}
 use native.Mathlib.Omega.{arith}
 use lib.ListN.{length, take}
 use Rattle.buffers.specs.Filled.{filled}
 use borrow.Author.Needs.{scaled-fits}
 use Rattle.handlers.specs.declared.Outcome.{Outcome}
+use Rattle.handlers.specs.Machines.{powerOnOf}
+use Rattle.handlers_laws.proofs.Kept.{Ready, step-ready, power-on-ready}
+use Rattle.handlers_laws.proofs.Checks.{outcomeOf, checked-step, start-machine, start-refusal}
 use Rattle.claims.specs.Play.{endOf, eachOf, answersOf, refusalsOf}
 use Rattle.claims.proofs.Playing.{Fits, count-fits, machine-turn, stored-turn, claimed}
 use borrow.Author.Needs.{needs}
@@ -19,9 +22,10 @@ Inv-loop n heads values answers₀ refusals₀ on m₀ k i₀ answers refusals m
     × Fits k (length heads) (length values) (length answers₀) (length refusals₀)
     × (length answers ≡ length answers₀)
     × (length refusals ≡ length refusals₀)
-    × (m ≡ endOf m₀ (take i heads) (take i values))
-    × (answers ≡ filled (answersOf m₀ (take i heads) (take i values)) answers₀)
-    × (refusals ≡ filled (refusalsOf m₀ (take i heads) (take i values)) refusals₀)
+    × (m .machine ≡ endOf (powerOnOf n .machine) (take i heads) (take i values))
+    × (answers ≡ filled (answersOf (powerOnOf n .machine) (take i heads) (take i values)) answers₀)
+    × (refusals ≡ filled (refusalsOf (powerOnOf n .machine) (take i heads) (take i values)) refusals₀)
+    × Ready (m .machine)
 
 abbrev μ-loop : tie.MeasureT-loop
 μ-loop n heads values answers₀ refusals₀ on m₀ k i₀ answers refusals m i = k - i
@@ -42,8 +46,8 @@ inside i k a b c d l f =
       refusals = omega (arith, f .refusals);
     }
 
-power-on-requires : tie.Need-power-on-requires Inv-loop μ-loop
-power-on-requires c κs = search needs
+start-requires : tie.Need-start-requires Inv-loop μ-loop
+start-requires c κs = search needs
 
 lesser-requires : tie.Need-lesser-requires Inv-loop μ-loop
 lesser-requires c κs = search needs
@@ -56,7 +60,18 @@ lesser-requires-3 c κs = search needs
 
 loop-holds : tie.Need-loop-holds Inv-loop μ-loop
 unfolding endOf eachOf
-loop-holds c = (search needs, rw (c .lesser3 .ensures, c .before .lesser2 .ensures, c .before .before .lesser .ensures) (count-fits _ _ _ _), refl, refl, refl, refl, refl)
+loop-holds c =
+    let n = c .before .before .before .before .before .before .before .before .before .args .n in
+    let e : c .before .before .before .before .start .result .checked .machine ≡ powerOnOf n .machine = rw (c .before .before .before .before .start .ensures) (start-machine n) in (
+      search needs,
+      rw (c .lesser3 .ensures, c .before .lesser2 .ensures, c .before .before .lesser .ensures) (count-fits _ _ _ _),
+      refl,
+      refl,
+      e,
+      refl,
+      refl,
+      rw e (power-on-ready n),
+    )
 
 mul-step : tie.Need-mul-step Inv-loop μ-loop
 mul-step c = scaled-fits _ _ 4 (inside _ _ _ _ _ _ (c .loop-test .taken) (c .before .loop .inv .1) .heads) (c .before .before .before .before .before .before .before .before .before .before .before .good .1 .0 .1)
@@ -91,15 +106,20 @@ loop-less c = search needs
 loop-again : tie.Need-loop-again Inv-loop μ-loop
 loop-again c =
     let v = c .before .before .before .before .before .loop .inv in
-    let p = inside _ _ _ _ _ _ (c .before .before .before .before .loop-test .taken) (v .1) in (
+    let p = inside _ _ _ _ _ _ (c .before .before .before .before .loop-test .taken) (v .1) in
+    let o = ap outcomeOf (c .before .step .ensures) ∙ checked-step _ _ _ (v .7 .isSound) in (
       omega (arith, c .before .before .before .before .loop-test .taken),
       v .1,
       simp length-set (v .2),
       simp length-set (v .3),
-      machine-turn _ _ _ _ (p .heads) (p .values) (v .4) (c .before .step .ensures),
-      stored-turn _ _ _ _ (p .heads) (p .values) (v .4) (λ (o : Outcome). o .answer) _ (c .before .step .ensures) (p .answers) (v .5),
-      stored-turn _ _ _ _ (p .heads) (p .values) (v .4) (λ (o : Outcome). o .refusal) _ (c .before .step .ensures) (p .refusals) (v .6),
+      machine-turn _ _ _ _ (p .heads) (p .values) (v .4) o,
+      stored-turn _ _ _ _ (p .heads) (p .values) (v .4) (λ (o : Outcome). o .answer) _ o (p .answers) (v .5),
+      stored-turn _ _ _ _ (p .heads) (p .values) (v .4) (λ (o : Outcome). o .refusal) _ o (p .refusals) (v .6),
+      rw (ap (λ (o : Outcome). o .machine) o) (step-ready _ (v .7) _ _ (c .before .before .before .before .before .before .before .before .before .before .before .before .before .shared-slice-known2 .given _ .fits)),
     )
+
+leave-requires : tie.Need-leave-requires Inv-loop μ-loop
+leave-requires c κs = search needs
 
 same-length : tie.Need-same-length Inv-loop μ-loop
 same-length c = search needs
@@ -109,19 +129,20 @@ same-length-2 c = search needs
 
 returns : tie.Need-returns Inv-loop μ-loop
 returns c =
-    let v = c .before .loop .inv in
-    let e : c .before .loop .i ≡ c .before .before .lesser3 .result = omega (arith, v .0, c .loop-test .left) in
-    let h = c .before .before .before .before .before .before .before .before .before .before .before .args .heads .now in
-    let w = c .before .before .before .before .before .before .before .before .before .before .before .args .values .now in
-    let n = c .before .before .before .before .before .before .before .before .before .before .before .args .n in
-    let o = c .before .before .before .before .before .before .power-on .ensures in (
-      played-end n h w o e (v .4) (rw (c .before .before .lesser3 .ensures, c .before .before .before .lesser2 .ensures, c .before .before .before .before .lesser .ensures)),
+    let v = c .before .before .loop .inv in
+    let e : c .before .before .loop .i ≡ c .before .before .before .lesser3 .result = omega (arith, v .0, c .before .loop-test .left) in
+    let h = c .before .before .before .before .before .before .before .before .before .before .before .before .args .heads .now in
+    let w = c .before .before .before .before .before .before .before .before .before .before .before .before .args .values .now in
+    let n = c .before .before .before .before .before .before .before .before .before .before .before .before .args .n in
+    let q : c .before .before .before .before .before .before .before .start .result .refusal ≡ powerOnOf n .refusal = rw (c .before .before .before .before .before .before .before .start .ensures) (start-refusal n) in
+    let m : c .leave .result ≡ endOf (powerOnOf n .machine) (take (c .before .before .loop .i) h) (take (c .before .before .loop .i) w) = c .leave .ensures ∙ v .4 in (
+      played-end n h w e m (rw (c .before .before .before .lesser3 .ensures, c .before .before .before .before .lesser2 .ensures, c .before .before .before .before .before .lesser .ensures)) q,
       (
-        stored-end n h w o e (v .4) (λ (q : Outcome). q .answer) _ (v .5),
+        stored-end n h w e m (λ (q : Outcome). q .answer) _ (v .5),
         (
-          stored-end n h w o e (v .4) (λ (q : Outcome). q .refusal) _ (v .6),
-          claimed n (c .before .before .lesser3 .result) h w (λ i. c .before .before .before .before .before .before .before .before .before .before .shared-slice-known .given i .fits) (λ i. c .before .before .before .before .before .before .before .before .before .shared-slice-known2 .given i .fits)
-              (machine-end n h w o e (v .4)),
+          stored-end n h w e m (λ (q : Outcome). q .refusal) _ (v .6),
+          claimed n (c .before .before .before .lesser3 .result) h w (λ i. c .before .before .before .before .before .before .before .before .before .before .before .shared-slice-known .given i .fits) (λ i. c .before .before .before .before .before .before .before .before .before .before .shared-slice-known2 .given i .fits)
+              (machine-end n h w e m),
         ),
       ),
     )
@@ -132,7 +153,7 @@ play-spec =
     (tie.spec
     Inv-loop
     μ-loop
-    power-on-requires
+    start-requires
     lesser-requires
     lesser-requires-2
     lesser-requires-3
@@ -148,6 +169,7 @@ play-spec =
     add-i
     loop-less
     loop-again
+    leave-requires
     same-length
     same-length-2
     returns)

@@ -41,7 +41,7 @@ use denote.Triple.Walked.{says, Stays, stay-ref, stay-none, walkOf, goes-none, g
 use denote.Exit.{yes}
 use Rattle.handlers.specs.declared.Machine.{Machine}
 use Rattle.handlers.specs.declared.Outcome.{Outcome}
-use Rattle.handlers.specs.Service.{stepOf}
+use Rattle.handlers.specs.Calls.{stepOf}
 use Rattle.handlers.proofs.Machine as T
 use Rattle.handlers.proofs.Machine.Laws as T′
 use Rattle.handlers.proofs.Outcome as O
@@ -49,10 +49,10 @@ use Rattle.handlers.proofs.Outcome.Laws as O′
 use Rattle.lent_machine.specs.declared.Answered.{Answered}
 use Rattle.lent_machine.proofs.Answered as Q
 use Rattle.lent_machine.proofs.Answered.Laws as Q′
-use Rattle.steps.proofs.step as step
-use Rattle.steps.proofs.step.Symbol as step-def
-use Rattle.steps.proofs.step.Symbol.{name as #step}
-use Rattle.steps.proofs.step.Met as step-thm
+use Rattle.handlers.proofs.Machine.step as step
+use Rattle.handlers.proofs.Machine.step.Symbol as step-def
+use Rattle.handlers.proofs.Machine.step.Symbol.{name as #step}
+use Rattle.handlers.proofs.Machine.step.Met as step-thm
 use Rattle.lent_machine.proofs.advance.Key.{name as #advance}
 use Rattle.lent_machine.proofs.advance as advance
 use Rattle.lent_machine.proofs.advance.Statement as stated
@@ -177,4 +177,4 @@ advance-spec 𝓤 H 𝓜 𝓖 𝓡 =
     entered 𝓤 H (tripleOf 𝓤 H (𝓖 .A) advance.signature (advance.spec 𝓤 H (𝓖 .A) (𝓜 .mem) (𝓡 .run)))
     (tables 𝓤 H 𝓜 𝓡 code.env .C) (tables 𝓤 H 𝓜 𝓡 code.env .Λ) #advance code.function (code.unfolded 𝓤 H 𝓜 𝓡)
     (advance-meets 𝓤 H (𝓖 .A) (givenOf 𝓤 H 𝓜 𝓖) (𝓜 .mem) (𝓡 .run) (tablesOf 𝓤 H 𝓜 (tables 𝓤 H 𝓜 𝓡 code.env))
-    (cited 𝓤 H (Step 𝓤 H (𝓖 .A) (𝓜 .mem) (𝓡 .run)) 𝓜 𝓡 code.env #step step-def.routine code.calls-steps·step (step-thm.met 𝓤 H 𝓜 𝓖 𝓡)))
+    (cited 𝓤 H (Step 𝓤 H (𝓖 .A) (𝓜 .mem) (𝓡 .run)) 𝓜 𝓡 code.env #step step-def.routine code.calls-handlers·Machine·step (step-thm.met 𝓤 H 𝓜 𝓖 𝓡)))

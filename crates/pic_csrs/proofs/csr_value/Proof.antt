@@ -1,5 +1,4 @@
 use Rattle.pic_csrs.specs.Values.{csrValue}
-use Rattle.pic.proofs.Soundness.{facts, meihap-fits}
 use borrow.Author.Needs.{needs}
 use Rattle.pic_csrs.proofs.csr_value.Statement.{statement}
 use Rattle.pic_csrs.proofs.csr_value.Tie as tie
@@ -40,16 +39,8 @@ cast-result-3 c = search needs
 enum-told-6 : tie.Need-enum-told-6
 enum-told-6 c = search needs
 
-cast-result-4 : tie.Need-cast-result-4
-cast-result-4 c = search needs
-
-mul-result : tie.Need-mul-result
-mul-result c = search needs
-
-add-result : tie.Need-add-result
-add-result c =
-    let h = facts _ (c .before .before .before .before .pre) in
-    record { fits = meihap-fits _ h _ (h .inRange .scalars .4) }
+meihap-requires : tie.Need-meihap-requires
+meihap-requires c κs = search needs
 
 enum-told-7 : tie.Need-enum-told-7
 enum-told-7 c = search needs
@@ -76,7 +67,7 @@ returns-5 c = rw (c .before .before .enum-told5 .given .1, c .before .to-field3 
 
 returns-6 : tie.Need-returns-6
 unfolding csrValue
-returns-6 c = rw (c .before .before .enum-told6 .given .1)
+returns-6 c = rw (c .before .enum-told6 .given .1) (c .meihap .ensures)
 
 returns-7 : tie.Need-returns-7
 unfolding csrValue
@@ -98,9 +89,7 @@ csr-value-spec =
     to-field-requires-3
     cast-result-3
     enum-told-6
-    cast-result-4
-    mul-result
-    add-result
+    meihap-requires
     enum-told-7
     returns
     returns-2

@@ -1,6 +1,4 @@
-use mathlib.Core.Path.{refl}
 use Rattle.pic_csrs.specs.Values.{csrWritten}
-use Rattle.pic.proofs.Soundness.{facts, settle-kept}
 use borrow.Author.Needs.{needs}
 use Rattle.pic_csrs.proofs.csr_written.Statement.{statement}
 use Rattle.pic_csrs.proofs.csr_written.Tie as tie
@@ -14,17 +12,14 @@ to-rank-requires c κs = search needs
 enum-told : tie.Need-enum-told
 enum-told c = search needs
 
-mul-c : tie.Need-mul-c
-mul-c c = search needs
+mul-s : tie.Need-mul-s
+mul-s c = search needs
 
 enum-told-2 : tie.Need-enum-told-2
 enum-told-2 c = search needs
 
 enum-told-3 : tie.Need-enum-told-3
 enum-told-3 c = search needs
-
-with-claim-requires : tie.Need-with-claim-requires
-with-claim-requires c κs = search needs
 
 enum-told-4 : tie.Need-enum-told-4
 enum-told-4 c = search needs
@@ -40,31 +35,31 @@ enum-told-7 c = search needs
 
 returns : tie.Need-returns
 unfolding csrWritten
-returns c = rw (c .enum-told .given .1) (settle-kept _ _ (facts _ (c .before .before .before .pre)) refl refl refl refl)
+returns c = rw (c .enum-told .given .1)
 
 returns-2 : tie.Need-returns-2
 unfolding csrWritten
-returns-2 c = rw (c .enum-told2 .given .1, c .before .before .to-rank .ensures) (settle-kept _ _ (facts _ (c .before .before .before .pre)) refl refl refl refl)
+returns-2 c = rw (c .enum-told2 .given .1, c .before .before .to-rank .ensures)
 
 returns-3 : tie.Need-returns-3
 unfolding csrWritten
-returns-3 c = rw (c .before .enum-told3 .given .1, c .with-claim .ensures) (settle-kept _ _ (facts _ (c .before .before .before .before .pre)) refl refl refl refl)
+returns-3 c = rw (c .enum-told3 .given .1)
 
 returns-4 : tie.Need-returns-4
 unfolding csrWritten
-returns-4 c = rw (c .enum-told4 .given .1, c .before .before .to-rank .ensures) (settle-kept _ _ (facts _ (c .before .before .before .pre)) refl refl refl refl)
+returns-4 c = rw (c .enum-told4 .given .1, c .before .before .to-rank .ensures)
 
 returns-5 : tie.Need-returns-5
 unfolding csrWritten
-returns-5 c = rw (c .enum-told5 .given .1, c .before .before .to-rank .ensures) (settle-kept _ _ (facts _ (c .before .before .before .pre)) refl refl refl refl)
+returns-5 c = rw (c .enum-told5 .given .1, c .before .before .to-rank .ensures)
 
 returns-6 : tie.Need-returns-6
 unfolding csrWritten
-returns-6 c = rw (c .enum-told6 .given .1) (settle-kept _ _ (facts _ (c .before .before .before .pre)) refl refl refl refl)
+returns-6 c = rw (c .enum-told6 .given .1)
 
 returns-7 : tie.Need-returns-7
 unfolding csrWritten
-returns-7 c = rw (c .enum-told7 .given .1) (settle-kept _ _ (facts _ (c .before .before .before .pre)) refl refl refl refl)
+returns-7 c = rw (c .enum-told7 .given .1)
 
 pub csr-written-spec : {M : Type 1} → statement M
 csr-written-spec =
@@ -73,10 +68,9 @@ csr-written-spec =
     cast-t6
     to-rank-requires
     enum-told
-    mul-c
+    mul-s
     enum-told-2
     enum-told-3
-    with-claim-requires
     enum-told-4
     enum-told-5
     enum-told-6

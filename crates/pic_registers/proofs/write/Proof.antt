@@ -1,7 +1,4 @@
-use mathlib.Core.Path.{refl, _∙_}
-use Rattle.pic.proofs.Soundness.{facts, settle-kept}
 use Rattle.pic_registers.specs.Registers.{writtenOf}
-use Rattle.pic_registers.proofs.Writes.{gateway-settled, clear-settled}
 use borrow.Author.Needs.{needs}
 use Rattle.pic_registers.proofs.write.Statement.{statement}
 use Rattle.pic_registers.proofs.write.Tie as tie
@@ -44,31 +41,31 @@ enum-told-3 c = search needs
 
 returns : tie.Need-returns
 unfolding writtenOf
-returns c = rw (c .before .before .r .given .1) (c .write-rank .ensures ∙ settle-kept _ _ (facts _ (c .before .before .before .before .pre .0)) refl refl refl refl)
+returns c = rw (c .before .before .r .given .1) (c .write-rank .ensures)
 
 returns-2 : tie.Need-returns-2
 unfolding writtenOf
-returns-2 c = rw (c .enum-told .given .1) (settle-kept _ _ (facts _ (c .before .before .pre .0)) refl refl refl refl)
+returns-2 c = rw (c .enum-told .given .1)
 
 returns-3 : tie.Need-returns-3
 unfolding writtenOf
-returns-3 c = rw (c .before .before .r2 .given .1) (c .write-enable .ensures ∙ settle-kept _ _ (facts _ (c .before .before .before .before .pre .0)) refl refl refl refl)
+returns-3 c = rw (c .before .before .r2 .given .1) (c .write-enable .ensures)
 
 returns-4 : tie.Need-returns-4
 unfolding writtenOf
-returns-4 c = rw (c .before .enum-told2 .given .1) (c .write-priord .ensures ∙ settle-kept _ _ (facts _ (c .before .before .before .pre .0)) refl refl refl refl)
+returns-4 c = rw (c .before .enum-told2 .given .1) (c .write-priord .ensures)
 
 returns-5 : tie.Need-returns-5
 unfolding writtenOf
-returns-5 c = rw (c .before .before .r3 .given .1) (c .write-gateway .ensures ∙ gateway-settled _ (facts _ (c .before .before .before .before .pre .0)) _ (rw (c .before .before .r3 .given .1) at (c .before .before .before .before .pre .1)) _)
+returns-5 c = rw (c .before .before .r3 .given .1) (c .write-gateway .ensures)
 
 returns-6 : tie.Need-returns-6
 unfolding writtenOf
-returns-6 c = rw (c .before .before .r4 .given .1) (c .clear-latch .ensures ∙ clear-settled _ (facts _ (c .before .before .before .before .pre .0)) _ (rw (c .before .before .r4 .given .1) at (c .before .before .before .before .pre .1)) 0)
+returns-6 c = rw (c .before .before .r4 .given .1) (c .clear-latch .ensures)
 
 returns-7 : tie.Need-returns-7
 unfolding writtenOf
-returns-7 c = rw (c .enum-told3 .given .1) (settle-kept _ _ (facts _ (c .before .before .pre .0)) refl refl refl refl)
+returns-7 c = rw (c .enum-told3 .given .1)
 
 pub write-spec : {M : Type 1} → statement M
 write-spec =

@@ -52,9 +52,9 @@ returns-2 c =
     let first = second .before .before .before .before in
     let count = first .before .before in
     let at-1 = count .before in
-    let asked = at-1 .before .before in
-    let args = asked .before .before .before .before .args in
-    read-accepted (args .limits) (args .bytes .now) (args .heads .now) (args .values .now) (asked .ask-reading .ensures) (at-1 .if1 .left)
+    let verdict = at-1 .before .before in
+    let args = verdict .before .before .before .before .args in
+    read-accepted (args .limits) (args .bytes .now) (args .heads .now) (args .values .now) (verdict .ask-reading .ensures) (at-1 .if1 .left)
     (count .word .ensures) (c .word2 .ensures) (first .read-words .ensures) (second .read-words2 .ensures)
 
 pub read-within-spec : {M : Type 1} → statement M

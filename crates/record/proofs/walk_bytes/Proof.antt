@@ -2,9 +2,10 @@ use borrow.Author.Needs.{needs}
 use Prim.Native.Nat.{_≤_, _-_, _+_}
 use mathlib.Core.Path.{_≡_, _∙_, sym}
 use lib.ListN.{length, drop}
-use Rattle.record.specs.Record.{wordsFrom}
-use Rattle.record.specs.Questions.{lengthOf, walk, walkFrom}
-use Rattle.record.proofs.Walk.{walk-none, walk-past, walk-stop, equally-many, in-heads, past-heads, shape-there}
+use Rattle.event.specs.Event.{shapeOf}
+use Rattle.record.specs.Record.{wordsFrom, lengthOf}
+use Rattle.record.specs.Questions.{walk, walkFrom}
+use Rattle.record.proofs.Walk.{walk-none, walk-past, walk-stop, equally-many, in-heads, past-heads, check-there}
 use Rattle.record.proofs.walk_bytes.Statement.{statement}
 use Rattle.record.proofs.walk_bytes.Tie as tie
 
@@ -12,7 +13,7 @@ abbrev Inv-loop : tie.InvT-loop
 Inv-loop bytes n i₀ i =
     (length bytes ≡ lengthOf n)
     × (i ≤ n)
-    × (walk (wordsFrom bytes 2 n) (wordsFrom bytes (2 + n) n) ≡ walkFrom i (drop i (wordsFrom bytes 2 n)) (drop i (wordsFrom bytes (2 + n) n)))
+    × (walk shapeOf (wordsFrom bytes 2 n) (wordsFrom bytes (2 + n) n) ≡ walkFrom shapeOf i (drop i (wordsFrom bytes 2 n)) (drop i (wordsFrom bytes (2 + n) n)))
 
 abbrev μ-loop : tie.MeasureT-loop
 μ-loop bytes n i₀ i = n - i
@@ -49,19 +50,19 @@ loop-again c =
     let at-loop = c .before .before .before .before .before in
     let long = at-loop .loop .inv .0 in
     let more = c .before .before .before .before .if1 .left in
-    let here = shape-there _ _ long more (c .before .shape .ensures) (c .before .before .before .word .ensures) (c .before .before .word2 .ensures) in
-    (long, search needs, at-loop .loop .inv .2 ∙ walk-past _ _ _ _ (equally-many _ _ long) (in-heads _ _ long _ more) here (c .if2 .left))
+    let here = check-there _ _ long shapeOf more (c .before .shape .ensures) (c .before .before .before .word .ensures) (c .before .before .word2 .ensures) in
+    (long, search needs, at-loop .loop .inv .2 ∙ walk-past shapeOf _ _ _ _ (equally-many _ _ long) (in-heads _ _ long _ more) here (c .if2 .left))
 
 returns : tie.Need-returns Inv-loop μ-loop
-returns c = sym (c .before .loop .inv .2 ∙ walk-none _ _ _ (past-heads _ _ (c .before .loop .inv .0) _ (c .if1 .taken)))
+returns c = sym (c .before .loop .inv .2 ∙ walk-none shapeOf _ _ _ (past-heads _ _ (c .before .loop .inv .0) _ (c .if1 .taken)))
 
 returns-2 : tie.Need-returns-2 Inv-loop μ-loop
 returns-2 c =
     let at-loop = c .before .before .before .before .before in
     let long = at-loop .loop .inv .0 in
     let more = c .before .before .before .before .if1 .left in
-    let here = shape-there _ _ long more (c .before .shape .ensures) (c .before .before .before .word .ensures) (c .before .before .word2 .ensures) in
-    sym (at-loop .loop .inv .2 ∙ walk-stop _ _ _ _ (equally-many _ _ long) (in-heads _ _ long _ more) here (c .if2 .taken))
+    let here = check-there _ _ long shapeOf more (c .before .shape .ensures) (c .before .before .before .word .ensures) (c .before .before .word2 .ensures) in
+    sym (at-loop .loop .inv .2 ∙ walk-stop shapeOf _ _ _ _ (equally-many _ _ long) (in-heads _ _ long _ more) here (c .if2 .taken))
 
 pub walk-bytes-spec : {M : Type 1} → statement M
 walk-bytes-spec =

@@ -7,7 +7,7 @@ use lib.Seq.{length-take-le}
 use Rattle.record.specs.Record.{board}
 use Rattle.record.proofs.Questions.{readable}
 use Rattle.record.proofs.Answers.{read-done}
-use Rattle.record_round_trip.proofs.Trips.{read-written, not-read}
+use Rattle.record_round_trip.proofs.Calls.{read-written, not-read}
 use Rattle.record_round_trip.proofs.read_then_write.Statement.{statement}
 use Rattle.record_round_trip.proofs.read_then_write.Tie as tie
 

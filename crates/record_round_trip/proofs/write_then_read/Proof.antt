@@ -5,10 +5,10 @@ use native.Mathlib.Omega.{arith}
 use lib.Dec.{lit<}
 use lib.ListN.{length}
 use lib.Seq.{length-take-le}
-use Rattle.record.specs.Record.{board}
+use Rattle.record.specs.Record.{board, mostEvents, mostSources}
 use Rattle.record.proofs.Questions.{writable}
 use Rattle.record.proofs.Answers.{write-done}
-use Rattle.record_round_trip.proofs.Trips.{written-read, not-written}
+use Rattle.record_round_trip.proofs.Calls.{written-read, not-written}
 use Rattle.record_round_trip.proofs.write_then_read.Statement.{statement}
 use Rattle.record_round_trip.proofs.write_then_read.Tie as tie
 
@@ -56,8 +56,8 @@ returns c =
     let values-known = wrote .before .before .before .before .before in
     let heads-known = values-known .before in
     let args = heads-known .before .args in
-    let few : 4000 < 2 ^ 32 = lit< tt in
-    let most : 255 < 2 ^ 32 = lit< tt in
+    let few : mostEvents < 2 ^ 32 = lit< tt in
+    let most : mostSources < 2 ^ 32 = lit< tt in
     written-read board few most (args .sources) (args .heads .now) (args .values .now)
     (λ i. heads-known .shared-slice-known .given i .fits) (λ i. values-known .shared-slice-known2 .given i .fits)
     (args .bytes .now) (args .heads-back .now) (args .values-back .now) (wrote .write .ensures .0) (wrote .write .ensures .1)
@@ -72,8 +72,8 @@ returns-2 c =
     let values-known = wrote .before .before .before .before .before in
     let heads-known = values-known .before in
     let args = heads-known .before .args in
-    let few : 4000 < 2 ^ 32 = lit< tt in
-    let most : 255 < 2 ^ 32 = lit< tt in
+    let few : mostEvents < 2 ^ 32 = lit< tt in
+    let most : mostSources < 2 ^ 32 = lit< tt in
     not-written board few most (args .sources) (args .heads .now) (args .values .now)
     (λ i. heads-known .shared-slice-known .given i .fits) (λ i. values-known .shared-slice-known2 .given i .fits)
     (args .bytes .now) (args .heads-back .now) (args .values-back .now) (wrote .write .ensures .0) (wrote .write .ensures .1)

@@ -2,7 +2,7 @@ use Prim.Native.Nat.{_≤_}
 use mathlib.Core.Path.{sym, ap}
 use lib.ListN.{length}
 use lib.Seq.{length-take-le}
-use Rattle.text_writer.specs.Answers.{lengthTold}
+use Rattle.text_writer.specs.Answers.{textLength}
 use borrow.Author.Needs.{needs}
 use Rattle.record_to_text.proofs.convert.Statement.{statement}
 use Rattle.record_to_text.proofs.convert.Tie as tie
@@ -15,7 +15,7 @@ enum-known-answer c = search needs
 
 -- What was made is within the array.
 fits : (c : tie.After-answer) → c .answer .given .0 .0 ≤ length (c .before .before .to-text .last .1 .0)
-fits c = rw (ap lengthTold (c .answer .given .1)) at (c .before .before .to-text .ensures .1 .1 .0)
+fits c = rw (ap textLength (c .answer .given .1)) at (c .before .before .to-text .ensures .1 .1 .0)
 
 array-share-prefix-text : tie.Need-array-share-prefix-text
 array-share-prefix-text c = fits (c .before)

@@ -2,6 +2,7 @@ use borrow.Author.Needs.{needs}
 use Prim.Native.Nat.{_≤_, _-_}
 use mathlib.Core.Path.{_≡_, _∙_, sym}
 use lib.ListN.{length, drop}
+use Rattle.event.specs.Event.{shapeOf}
 use Rattle.record.specs.Questions.{walk, walkFrom}
 use Rattle.record.proofs.Walk.{walk-none, walk-past, walk-stop}
 use Rattle.record_writer.proofs.walk_arrays.Statement.{statement}
@@ -9,7 +10,7 @@ use Rattle.record_writer.proofs.walk_arrays.Tie as tie
 
 abbrev Inv-loop : tie.InvT-loop
 Inv-loop heads values i₀ i =
-    (length heads ≡ length values) × (i ≤ length heads) × (walk heads values ≡ walkFrom i (drop i heads) (drop i values))
+    (length heads ≡ length values) × (i ≤ length heads) × (walk shapeOf heads values ≡ walkFrom shapeOf i (drop i heads) (drop i values))
 
 abbrev μ-loop : tie.MeasureT-loop
 μ-loop heads values i₀ i = length heads - i
@@ -42,16 +43,16 @@ loop-again : tie.Need-loop-again Inv-loop μ-loop
 loop-again c =
     let at-loop = c .before .before .before .before .before in
     let more = c .before .before .before .before .if1 .left in
-    (search needs, search needs, at-loop .loop .inv .2 ∙ walk-past _ _ _ _ (at-loop .loop .inv .0) more (c .before .shape .ensures) (c .if2 .left))
+    (search needs, search needs, at-loop .loop .inv .2 ∙ walk-past shapeOf _ _ _ _ (at-loop .loop .inv .0) more (c .before .shape .ensures) (c .if2 .left))
 
 returns : tie.Need-returns Inv-loop μ-loop
-returns c = sym (c .before .loop .inv .2 ∙ walk-none _ _ _ (c .if1 .taken))
+returns c = sym (c .before .loop .inv .2 ∙ walk-none shapeOf _ _ _ (c .if1 .taken))
 
 returns-2 : tie.Need-returns-2 Inv-loop μ-loop
 returns-2 c =
     let at-loop = c .before .before .before .before .before in
     let more = c .before .before .before .before .if1 .left in
-    sym (at-loop .loop .inv .2 ∙ walk-stop _ _ _ _ (at-loop .loop .inv .0) more (c .before .shape .ensures) (c .if2 .taken))
+    sym (at-loop .loop .inv .2 ∙ walk-stop shapeOf _ _ _ _ (at-loop .loop .inv .0) more (c .before .shape .ensures) (c .if2 .taken))
 
 pub walk-arrays-spec : {M : Type 1} → statement M
 walk-arrays-spec =

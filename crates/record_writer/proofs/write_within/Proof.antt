@@ -38,10 +38,10 @@ returns-2 : tie.Need-returns-2
 returns-2 c =
     let put = c .before .before in
     let at-1 = put .before .before in
-    let asked = at-1 .before .before in
-    let args = asked .before .before .before .before .args in
+    let verdict = at-1 .before .before in
+    let args = verdict .before .before .before .before .args in
     write-accepted (args .limits) (args .sources) (args .heads .now) (args .values .now) (args .bytes .now)
-    (asked .ask-writing .ensures) (at-1 .if1 .left) (put .put-record .ensures)
+    (verdict .ask-writing .ensures) (at-1 .if1 .left) (put .put-record .ensures)
 
 pub write-within-spec : {M : Type 1} → statement M
 write-within-spec =

@@ -1,5 +1,5 @@
 use native.Mathlib.Omega.{arith}
-use Rattle.text_reader.specs.Numbers.{digitOf}
+use Rattle.digits.specs.Digits.{digitOf}
 use Rattle.text_reader.proofs.Digits.{within-low}
 use Rattle.text_reader.proofs.digit.Statement.{statement}
 use Rattle.text_reader.proofs.digit.Tie as tie

@@ -4,6 +4,7 @@ use mathlib.Core.Path.{_≡_, refl, sym, _∙_}
 use mathlib.Core.List.{map}
 use native.Mathlib.Omega.{arith}
 use lib.ListN.{length, take, drop}
+use Rattle.record.specs.Record.{mostEvents}
 use Rattle.text_reader.specs.Lines.{linesIn}
 use Rattle.text_reader.specs.Reading.{headIn, valueIn, firstBadFrom}
 use Rattle.text_reader.proofs.Turns.{goes, bad-stop, good-turn, lines-turn, count-turn, heads-turn, values-turn, end-stop, end-count}
@@ -13,14 +14,14 @@ use Rattle.text_reader.proofs.read_events.Tie as tie
 abbrev Inv-loop : tie.InvT-loop
 Inv-loop text from heads₀ values₀ at₀ n₀ heads values at n =
     (at ≤ length text)
-    × (n ≤ 4000)
+    × (n ≤ mostEvents)
     × (n ≤ length (linesIn (drop from text)))
     × (drop n (linesIn (drop from text)) ≡ linesIn (drop at text))
     × (firstBadFrom 2 (linesIn (drop from text)) ≡ firstBadFrom (n + 2) (linesIn (drop at text)))
     × (take n heads ≡ map headIn (take n (linesIn (drop from text))))
     × (take n values ≡ map valueIn (take n (linesIn (drop from text))))
-    × (4000 ≤ length heads)
-    × (4000 ≤ length values)
+    × (mostEvents ≤ length heads)
+    × (mostEvents ≤ length values)
     × (length heads ≡ length heads₀)
     × (length values ≡ length values₀)
 
@@ -37,7 +38,7 @@ add-bad : tie.Need-add-bad Inv-loop μ-loop
 add-bad c = search needs
 
 -- There is room for one more.
-room : (c : tie.Else2 Inv-loop μ-loop) → c .before .before .before .before .before .loop .n < 4000
+room : (c : tie.Else2 Inv-loop μ-loop) → c .before .before .before .before .before .loop .n < mostEvents
 room c = goes (c .before .before .before .before .before .loop .n) (c .before .before .before .line-at .result .event .ok) (c .if2 .left) .0
 
 mul-heads : tie.Need-mul-heads Inv-loop μ-loop

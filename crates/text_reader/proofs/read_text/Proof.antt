@@ -46,14 +46,14 @@ returns-2 c =
     let v = number .number-in .ensures in
     let good = test .if1 .left in
     let past = next .past .ensures in
-    let told = read .read-events .ensures in (
-      first-good text end v good past (told .0),
+    let lines = read .read-events .ensures in (
+      first-good text end v good past (lines .0),
       (
-        told .1 .0,
+        lines .1 .0,
         (λ z. (
           sources-read text end v good past,
-          heads-read text end v good past _ (told .1 .1 .0 z) (told .1 .1 .1 .0),
-          values-read text end v good past _ (told .1 .1 .0 z) (told .1 .1 .1 .1),
+          heads-read text end v good past _ (lines .1 .1 .0 z) (lines .1 .1 .1 .0),
+          values-read text end v good past _ (lines .1 .1 .0 z) (lines .1 .1 .1 .1),
         )),
       ),
     )

@@ -59,9 +59,9 @@ returns-2 c =
     let test = wrote .before .before .before .before in
     let read = test .before .before .before .before in
     let args = read .before .before .before .before .args in
-    let said = read .read-text .ensures .1 .1 (test .if1 .left) in
+    let parts = read .read-text .ensures .1 .1 (test .if1 .left) in
     made-done (args .text .now) (args .bytes .now) (read .read-text .ensures .0) (test .if1 .left) (wrote .before .write-arg .given .0 .1)
-    (wrote .write .result) (said .0) (said .1) (said .2) (wrote .write .ensures .0) (wrote .write .ensures .1) (wrote .write .kept .1 .1 .1 .0) (c .before .written .given .1)
+    (wrote .write .result) (parts .0) (parts .1) (parts .2) (wrote .write .ensures .0) (wrote .write .ensures .1) (wrote .write .kept .1 .1 .1 .0) (c .before .written .given .1)
 
 returns-3 : tie.Need-returns-3
 returns-3 c =
@@ -69,9 +69,9 @@ returns-3 c =
     let test = wrote .before .before .before .before in
     let read = test .before .before .before .before in
     let args = read .before .before .before .before .args in
-    let said = read .read-text .ensures .1 .1 (test .if1 .left) in
+    let parts = read .read-text .ensures .1 .1 (test .if1 .left) in
     let no = made-refused (args .text .now) (args .bytes .now) (read .read-text .ensures .0) (test .if1 .left) (wrote .before .write-arg .given .0 .1)
-    (wrote .write .result) (said .0) (said .1) (said .2) (wrote .write .ensures .0) (wrote .write .ensures .1) (c .before .written2 .given .1) in
+    (wrote .write .result) (parts .0) (parts .1) (parts .2) (wrote .write .ensures .0) (wrote .write .ensures .1) (c .before .written2 .given .1) in
     (no .0, (no .1, search needs))
 
 pub to-record-spec : {M : Type 1} → statement M

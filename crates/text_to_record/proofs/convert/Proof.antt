@@ -2,7 +2,7 @@ use Prim.Native.Nat.{_≤_}
 use mathlib.Core.Path.{sym, ap}
 use lib.ListN.{length}
 use lib.Seq.{length-take-le}
-use Rattle.text_reader.specs.Answers.{lengthMade}
+use Rattle.text_reader.specs.Answers.{recordLength}
 use borrow.Author.Needs.{needs}
 use Rattle.text_to_record.proofs.convert.Statement.{statement}
 use Rattle.text_to_record.proofs.convert.Tie as tie
@@ -15,7 +15,7 @@ enum-known-answer c = search needs
 
 -- What was made is within the array.
 fits : (c : tie.After-answer) → c .answer .given .0 .0 ≤ length (c .before .before .to-record .last .1 .0)
-fits c = rw (ap lengthMade (c .answer .given .1)) at (c .before .before .to-record .ensures .1 .1)
+fits c = rw (ap recordLength (c .answer .given .1)) at (c .before .before .to-record .ensures .1 .1)
 
 array-share-prefix-bytes : tie.Need-array-share-prefix-bytes
 array-share-prefix-bytes c = fits (c .before)

@@ -4,9 +4,9 @@ use native.Mathlib.Omega.{arith}
 use mathlib.Core.List.{List}
 use lib.ListN.{length, replicate, length-replicate}
 use lib.Seq.{length-take-le}
-use Rattle.record.specs.Record.{board}
+use Rattle.record.specs.Record.{board, mostEvents}
 use Rattle.record.proofs.Parts.{Parts, read-parts}
-use Rattle.text_writer.specs.Trip.{ComesBack}
+use Rattle.text_writer.specs.RoundTrip.{ComesBack}
 use Rattle.text_writer.proofs.RoundTrip.{comes-back}
 use Rattle.text_writer.proofs.Writing.{parts-fit, text-made, text-not-made}
 use borrow.Author.Needs.{needs}
@@ -27,10 +27,10 @@ enum-known-got c = search needs
 
 -- The arrays before the reading.
 abbrev none : List ℕ
-none = replicate 4000 0
+none = replicate mostEvents 0
 
-zeros : length none ≡ 4000
-zeros = length-replicate {A = ℕ} 4000 0
+zeros : length none ≡ mostEvents
+zeros = length-replicate {A = ℕ} mostEvents 0
 
 -- The round trip, of the bytes that were handed in.
 back : (c : tie.After-read) → ComesBack (c .before .before .before .before .args .bytes .now)

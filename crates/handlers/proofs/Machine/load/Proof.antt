@@ -1,22 +1,26 @@
-use Rattle.handlers.specs.Service.{loadOf}
-use Rattle.pic_laws.proofs.Kept.{load-8}
-use Rattle.handlers.proofs.Answers.{lift-answer}
+use Rattle.handlers.specs.Calls.{loadOf}
+use Rattle.handlers.proofs.Answers.{unsound, is-sound}
 use borrow.Author.Needs.{needs}
 use Rattle.handlers.proofs.Machine.load.Statement.{statement}
 use Rattle.handlers.proofs.Machine.load.Tie as tie
 
-stack-sound-requires : tie.Need-stack-sound-requires
-stack-sound-requires c κs = search needs
+is-sound-requires : tie.Need-is-sound-requires
+is-sound-requires c κs = search needs
 
-load-requires : tie.Need-load-requires
-load-requires c κs = search needs
-
-lift-requires : tie.Need-lift-requires
-lift-requires c κs = search needs
+refuse-requires : tie.Need-refuse-requires
+refuse-requires c κs = search needs
 
 returns : tie.Need-returns
 unfolding loadOf
-returns c = lift-answer _ _ (c .before .before .before .stack-sound .ensures) (c .before .load .ensures) (λ e. load-8 _ e _) (c .lift .ensures)
+returns c = rw (unsound _ (c .before .before .is-sound .ensures) (c .before .if1 .taken)) (c .refuse .ensures)
+
+load-event-requires : tie.Need-load-event-requires
+load-event-requires c κs = search needs
+
+returns-2 : tie.Need-returns-2
+unfolding loadOf
+returns-2 c = rw (is-sound _ (c .before .before .is-sound .ensures) (c .before .if1 .left)) (c .load-event .ensures)
 
 pub load-spec : {M : Type 1} → statement M
-load-spec = tie.close (tie.spec stack-sound-requires load-requires lift-requires returns)
+load-spec =
+    tie.close (tie.spec is-sound-requires refuse-requires returns load-event-requires returns-2)

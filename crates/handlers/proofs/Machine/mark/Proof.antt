@@ -2,20 +2,14 @@ use borrow.Author.Needs.{needs}
 use Rattle.handlers.proofs.Machine.mark.Statement.{statement}
 use Rattle.handlers.proofs.Machine.mark.Tie as tie
 
-with-current-requires : tie.Need-with-current-requires
-with-current-requires c κs = search needs
+set-current-requires : tie.Need-set-current-requires
+set-current-requires c κs = search needs
 
-sub-h : tie.Need-sub-h
-sub-h c = search needs
-
-mul-h : tie.Need-mul-h
-mul-h c = search needs
-
-element-set-from-h : tie.Need-element-set-from-h
-element-set-from-h c = search needs
+with-top-requires : tie.Need-with-top-requires
+with-top-requires c κs = search needs
 
 returns : tie.Need-returns
-returns c = rw (c .with-current .ensures, c .before .before .pre .2)
+returns c = rw (c .with-top .ensures, c .before .set-current .ensures)
 
 pub mark-spec : {M : Type 1} → statement M
-mark-spec = tie.close (tie.spec with-current-requires sub-h mul-h element-set-from-h returns)
+mark-spec = tie.close (tie.spec set-current-requires with-top-requires returns)

@@ -1,25 +1,8 @@
-use Prim.Native.Nat.{_≤_, _<_}
-use mathlib.Core.Path.{_≡_}
-use mathlib.Core.Bool.{true}
-use native.Mathlib.Omega.{arith}
-use Rattle.handlers.specs.Machines.{soundOf}
-use Rattle.handlers.proofs.Facts.{facts}
+use Rattle.handlers.specs.Calls.{openOf}
 use Rattle.handlers.proofs.Answers.{unsound, is-sound}
-use borrow.Author.Tests.{lt-ltb, le-ltb, eq-eqb, ne-eqb}
-use Rattle.handlers.specs.Service.{openOf}
 use borrow.Author.Needs.{needs}
 use Rattle.handlers.proofs.Machine.open.Statement.{statement}
 use Rattle.handlers.proofs.Machine.open.Tie as tie
-
--- Past question 8 the machine is sound.
-sound-here : (c : tie.Else1) → soundOf (c .before .before .args .self) ≡ true
-sound-here c = is-sound _ (c .before .is-sound .ensures) (c .if1 .left)
-
-few : (c : tie.Else2) → c .before .before .before .before .args .self .depth ≤ 15
-few c = facts _ (sound-here (c .before .before)) .stack .few
-
-some : (c : tie.Else2) → 0 < c .before .before .before .before .args .self .depth
-some c = omega (arith, c .if2 .left)
 
 is-sound-requires : tie.Need-is-sound-requires
 is-sound-requires c κs = search needs
@@ -31,51 +14,13 @@ returns : tie.Need-returns
 unfolding openOf
 returns c = rw (unsound _ (c .before .before .is-sound .ensures) (c .before .if1 .taken)) (c .refuse .ensures)
 
-refuse-requires-2 : tie.Need-refuse-requires-2
-refuse-requires-2 c κs = search needs
+open-event-requires : tie.Need-open-event-requires
+open-event-requires c κs = search needs
 
 returns-2 : tie.Need-returns-2
 unfolding openOf
-returns-2 c = rw (sound-here (c .before .before .before), le-ltb 0 (c .before .before .before .before .before .args .self .depth) (omega (arith, c .before .if2 .taken))) (c .refuse2 .ensures)
-
-top-requires : tie.Need-top-requires
-top-requires c κs = few c
-
-refuse-requires-3 : tie.Need-refuse-requires-3
-refuse-requires-3 c κs = search needs
-
-returns-3 : tie.Need-returns-3
-unfolding openOf
-returns-3 c = rw (sound-here (c .before .before .before .before .before .before), lt-ltb 0 _ (some (c .before .before .before .before)), ← c .before .before .before .top .ensures, ne-eqb _ _ (c .before .if3 .taken)) (c .refuse3 .ensures)
-
-mark-requires : tie.Need-mark-requires
-mark-requires c κs = (some (c .before .before .before), few (c .before .before .before), c .before .before .top .ensures)
-
-cast-accept : tie.Need-cast-accept
-cast-accept c = search needs
-
-accept-requires : tie.Need-accept-requires
-accept-requires c κs = search needs
-
-returns-4 : tie.Need-returns-4
-unfolding openOf
-returns-4 c =
-    let o = rw (c .before .before .before .before .before .top .ensures) at (c .before .before .before .if3 .left) in
-    rw (c .accept .ensures, c .before .before .mark .ensures, c .before .before .before .before .before .top .ensures, sound-here (c .before .before .before .before .before .before .before .before), lt-ltb 0 _ (some (c .before .before .before .before .before .before)), eq-eqb _ _ o)
+returns-2 c = rw (is-sound _ (c .before .before .is-sound .ensures) (c .before .if1 .left)) (c .open-event .ensures)
 
 pub open-spec : {M : Type 1} → statement M
 open-spec =
-    tie.close
-    (tie.spec
-    is-sound-requires
-    refuse-requires
-    returns
-    refuse-requires-2
-    returns-2
-    top-requires
-    refuse-requires-3
-    returns-3
-    mark-requires
-    cast-accept
-    accept-requires
-    returns-4)
+    tie.close (tie.spec is-sound-requires refuse-requires returns open-event-requires returns-2)

@@ -1,22 +1,26 @@
-use Rattle.handlers.specs.Service.{sampleOf}
-use Rattle.pic_laws.proofs.Kept.{sample-8}
-use Rattle.handlers.proofs.Answers.{lift-answer}
+use Rattle.handlers.specs.Calls.{sampleOf}
+use Rattle.handlers.proofs.Answers.{unsound, is-sound}
 use borrow.Author.Needs.{needs}
 use Rattle.handlers.proofs.Machine.sample.Statement.{statement}
 use Rattle.handlers.proofs.Machine.sample.Tie as tie
 
-stack-sound-requires : tie.Need-stack-sound-requires
-stack-sound-requires c κs = search needs
+is-sound-requires : tie.Need-is-sound-requires
+is-sound-requires c κs = search needs
 
-sample-requires : tie.Need-sample-requires
-sample-requires c κs = search needs
-
-lift-requires : tie.Need-lift-requires
-lift-requires c κs = search needs
+refuse-requires : tie.Need-refuse-requires
+refuse-requires c κs = search needs
 
 returns : tie.Need-returns
 unfolding sampleOf
-returns c = lift-answer _ _ (c .before .before .before .stack-sound .ensures) (c .before .sample .ensures) (λ e. sample-8 _ e _ _) (c .lift .ensures)
+returns c = rw (unsound _ (c .before .before .is-sound .ensures) (c .before .if1 .taken)) (c .refuse .ensures)
+
+sample-event-requires : tie.Need-sample-event-requires
+sample-event-requires c κs = search needs
+
+returns-2 : tie.Need-returns-2
+unfolding sampleOf
+returns-2 c = rw (is-sound _ (c .before .before .is-sound .ensures) (c .before .if1 .left)) (c .sample-event .ensures)
 
 pub sample-spec : {M : Type 1} → statement M
-sample-spec = tie.close (tie.spec stack-sound-requires sample-requires lift-requires returns)
+sample-spec =
+    tie.close (tie.spec is-sound-requires refuse-requires returns sample-event-requires returns-2)

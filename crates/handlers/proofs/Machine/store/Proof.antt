@@ -1,22 +1,26 @@
-use Rattle.handlers.specs.Service.{storeOf}
-use Rattle.pic_laws.proofs.Kept.{store-8}
-use Rattle.handlers.proofs.Answers.{lift-answer}
+use Rattle.handlers.specs.Calls.{storeOf}
+use Rattle.handlers.proofs.Answers.{unsound, is-sound}
 use borrow.Author.Needs.{needs}
 use Rattle.handlers.proofs.Machine.store.Statement.{statement}
 use Rattle.handlers.proofs.Machine.store.Tie as tie
 
-stack-sound-requires : tie.Need-stack-sound-requires
-stack-sound-requires c κs = search needs
+is-sound-requires : tie.Need-is-sound-requires
+is-sound-requires c κs = search needs
 
-store-requires : tie.Need-store-requires
-store-requires c κs = search needs
-
-lift-requires : tie.Need-lift-requires
-lift-requires c κs = search needs
+refuse-requires : tie.Need-refuse-requires
+refuse-requires c κs = search needs
 
 returns : tie.Need-returns
 unfolding storeOf
-returns c = lift-answer _ _ (c .before .before .before .stack-sound .ensures) (c .before .store .ensures) (λ e. store-8 _ e _ _) (c .lift .ensures)
+returns c = rw (unsound _ (c .before .before .is-sound .ensures) (c .before .if1 .taken)) (c .refuse .ensures)
+
+store-event-requires : tie.Need-store-event-requires
+store-event-requires c κs = search needs
+
+returns-2 : tie.Need-returns-2
+unfolding storeOf
+returns-2 c = rw (is-sound _ (c .before .before .is-sound .ensures) (c .before .if1 .left)) (c .store-event .ensures)
 
 pub store-spec : {M : Type 1} → statement M
-store-spec = tie.close (tie.spec stack-sound-requires store-requires lift-requires returns)
+store-spec =
+    tie.close (tie.spec is-sound-requires refuse-requires returns store-event-requires returns-2)

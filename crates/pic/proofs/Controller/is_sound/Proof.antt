@@ -15,7 +15,7 @@ places : (c : tie.Start)
     × (c .args .self .sources < length (c .args .self .latch))
 places c = (search needs, search needs, search needs, search needs, search needs, search needs)
 
-fits : (c : tie.Start) → (c .args .self .sources < 256) × (c .args .self .base < 2 ^ 32)
+fits : (c : tie.Start) → (c .args .self .sources < 256) × (c .args .self .scalars .base < 2 ^ 32)
 fits c = (search needs, search needs)
 
 sources-sound-requires : tie.Need-sources-sound-requires
@@ -23,7 +23,7 @@ sources-sound-requires c κs = search needs
 
 returns : tie.Need-returns
 returns c =
-    let b = c .before .before .before .before .before .before .before .before in
+    let b = c .before .before .before .before .before .before .before .before .before .before in
     let p = places b in
     sound-tested (b .args .self) (fits b .0) (fits b .1) (p .0) (p .1) (p .2) (p .3) (p .4) (p .5) (c .sources-sound .ensures)
 

@@ -23,6 +23,9 @@ loop-holds c = search needs
 add-s : tie.Need-add-s Inv-loop μ-loop
 add-s c = search needs
 
+element-copy-out-t10 : tie.Need-element-copy-out-t10 Inv-loop μ-loop
+element-copy-out-t10 c = search needs
+
 element-copy-out-source-sound : tie.Need-element-copy-out-source-sound Inv-loop μ-loop
 element-copy-out-source-sound c = search needs
 
@@ -37,9 +40,6 @@ element-copy-out-source-sound-4 c = search needs
 
 element-copy-out-source-sound-5 : tie.Need-element-copy-out-source-sound-5 Inv-loop μ-loop
 element-copy-out-source-sound-5 c = search needs
-
-element-copy-out-source-sound-6 : tie.Need-element-copy-out-source-sound-6 Inv-loop μ-loop
-element-copy-out-source-sound-6 c = search needs
 
 source-sound-requires : tie.Need-source-sound-requires Inv-loop μ-loop
 source-sound-requires c κs = search needs
@@ -62,12 +62,12 @@ sources-sound-spec =
     cast-n
     loop-holds
     add-s
+    element-copy-out-t10
     element-copy-out-source-sound
     element-copy-out-source-sound-2
     element-copy-out-source-sound-3
     element-copy-out-source-sound-4
     element-copy-out-source-sound-5
-    element-copy-out-source-sound-6
     source-sound-requires
     loop-less
     loop-again

@@ -26,6 +26,9 @@ add-s c = search needs
 cast-candidate : tie.Need-cast-candidate Inv-loop μ-loop
 cast-candidate c = search needs
 
+element-copy-out-t13 : tie.Need-element-copy-out-t13 Inv-loop μ-loop
+element-copy-out-t13 c = search needs
+
 element-copy-out-candidate : tie.Need-element-copy-out-candidate Inv-loop μ-loop
 element-copy-out-candidate c = search needs
 
@@ -40,9 +43,6 @@ element-copy-out-candidate-4 c = search needs
 
 element-copy-out-candidate-5 : tie.Need-element-copy-out-candidate-5 Inv-loop μ-loop
 element-copy-out-candidate-5 c = search needs
-
-element-copy-out-candidate-6 : tie.Need-element-copy-out-candidate-6 Inv-loop μ-loop
-element-copy-out-candidate-6 c = search needs
 
 candidate-requires : tie.Need-candidate-requires Inv-loop μ-loop
 candidate-requires c κs = search needs
@@ -69,12 +69,12 @@ winner-spec =
     loop-holds
     add-s
     cast-candidate
+    element-copy-out-t13
     element-copy-out-candidate
     element-copy-out-candidate-2
     element-copy-out-candidate-3
     element-copy-out-candidate-4
     element-copy-out-candidate-5
-    element-copy-out-candidate-6
     candidate-requires
     better-requires
     loop-less

@@ -1,4 +1,4 @@
-use Rattle.pic_registers.specs.Registers.{joinOf}
+use Rattle.pic_registers.specs.Words.{joinOf}
 use Rattle.pic_registers.proofs.Turns.{join-set}
 use borrow.Author.Needs.{needs}
 use Rattle.pic_registers.proofs.samples.join.Statement.{statement}

@@ -1,20 +1,21 @@
 use Prim.Native.Nat.{_≤_, _<_, _-_, _^_}
 use mathlib.Core.Path.{_≡_}
 use native.Mathlib.Omega.{arith}
-use Rattle.pic_registers.specs.Registers.{pendingTo}
+use Rattle.pic_registers.specs.Words.{wordTo}
+use Rattle.pic_registers.specs.Registers.{pendingBit}
 use Rattle.pic_registers.proofs.Turns.{pending-turn, join-lt}
 use borrow.Author.Needs.{needs}
 use Rattle.pic_registers.proofs.samples.pending_word.Statement.{statement}
 use Rattle.pic_registers.proofs.samples.pending_word.Tie as tie
 
 abbrev Inv-loop : tie.InvT-loop
-Inv-loop x c n w₀ y₀ w y = (n ≡ c .sources) × (y ≤ 32) × (w ≡ pendingTo c x y) × (w < 2 ^ y)
+Inv-loop x c n w₀ y₀ w y = (y ≤ 32) × (w ≡ wordTo (pendingBit c x) y) × (w < 2 ^ y)
 
 abbrev μ-loop : tie.MeasureT-loop
 μ-loop x c n w₀ y₀ w y = 32 - y
 
 loop-holds : tie.Need-loop-holds Inv-loop μ-loop
-unfolding pendingTo
+unfolding wordTo
 loop-holds c = search needs
 
 mul-s : tie.Need-mul-s Inv-loop μ-loop
@@ -59,13 +60,12 @@ loop-less c = search needs
 loop-again : tie.Need-loop-again Inv-loop μ-loop
 loop-again c = (
   search needs,
-  search needs,
-  pending-turn _ _ _ (c .before .before .before .before .before .before .before .before .loop .inv .2) (c .before .is-source .ensures) (c .before .before .pending .ensures) (c .join .ensures),
-  rw (c .join .ensures) (join-lt _ _ _ (c .before .before .before .before .before .before .before .before .loop .inv .3)),
+  pending-turn (c .before .before .before .before .before .before .before .before .before .args .t1) _ _ (c .before .before .before .before .before .before .before .before .loop .inv .1) (c .before .is-source .ensures) (c .before .before .pending .ensures) (c .join .ensures),
+  rw (c .join .ensures) (join-lt _ _ _ (c .before .before .before .before .before .before .before .before .loop .inv .2)),
 )
 
 returns : tie.Need-returns Inv-loop μ-loop
-returns c = let e : c .before .loop .y ≡ 32 = omega arith in rw e at (c .before .loop .inv .2)
+returns c = let e : c .before .loop .y ≡ 32 = omega arith in rw e at (c .before .loop .inv .1)
 
 pub pending-word-spec : {M : Type 1} → statement M
 pending-word-spec =

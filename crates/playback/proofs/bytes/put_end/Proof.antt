@@ -1,5 +1,5 @@
 use Rattle.digits.proofs.Pieces.{stands-as}
-use Rattle.playback.proofs.Whole.{last-fits, end-is}
+use Rattle.playback.proofs.Whole.{last-fits, end-line-is}
 use lib.ListN.{length}
 use mathlib.Core.Path.{_≡_, ap, _∙_}
 use mir.Facts.{toZ-ofZ}
@@ -14,6 +14,9 @@ use Rattle.playback.proofs.bytes.put_end.Tie as tie
 margin-requires : tie.Need-margin-requires
 margin-requires c κs = search needs
 
+current-rank-requires : tie.Need-current-rank-requires
+current-rank-requires c κs = search needs
+
 is-below-requires : tie.Need-is-below-requires
 is-below-requires c κs = search needs
 
@@ -23,27 +26,39 @@ size-requires c κs = search needs
 cast-put-last : tie.Need-cast-put-last
 cast-put-last c = search needs
 
+cast-put-last-2 : tie.Need-cast-put-last-2
+cast-put-last-2 c = search needs
+
 put-last-requires : tie.Need-put-last-requires
-put-last-requires c κs = last-fits (length (denote.Ref.now (c .before .before .before .before .before .before .before .before .args .out))) (c .before .before .before .before .before .before .before .before .args .at) ((c .before .before .before .before .before .before .before .before .args .m) .depth) ((c .before .before .before .before .before .before .before .before .args .m) .controller .current .0) (c .before .before .before .before .is-below .result) (c .before .before .size .result) (c .before .before .before .before .before .before .before .before .pre)
+put-last-requires c κs =
+    let s = c .before .before .before .before .before .before .before .before .before .before .before in
+    last-fits (length (denote.Ref.now (s .args .out))) (s .args .at) (s .args .m .depth) (c .before .before .before .before .before .before .before .current-rank .result .0) (c .before .before .before .before .before .is-below .result) (c .before .before .before .size .result) (s .pre)
 
 same-length : tie.Need-same-length
 same-length c = search needs
 
 -- The margin as it was passed on.
-passed : (c : tie.After-size) → toZ w32 (ofZ w32 (c .before .before .before .before .margin .result .margin)) ≡ c .before .before .before .before .margin .result .margin
-passed c = toZ-ofZ {w = w32} {z = c .before .before .before .before .margin .result .margin} (search needs)
+passed : (c : tie.After-size) → toZ w32 (ofZ w32 (c .before .before .before .before .before .before .margin .result .margin)) ≡ c .before .before .before .before .before .before .margin .result .margin
+passed c = toZ-ofZ {w = w32} {z = c .before .before .before .before .before .before .margin .result .margin} (search needs)
 
 returns : tie.Need-returns
-returns c = stands-as (denote.Ref.now (c .before .before .before .before .before .before .before .before .before .before .before .args .out)) (c .before .before .before .before .before .before .before .before .before .before .before .args .at) (end-is (c .before .before .before .before .before .before .before .before .before .before .before .args .m) (c .before .before .before .before .before .before .before .before .before .margin .ensures) ((c .before .before .before .before .before .before .before .is-below .ensures) ∙ ap (λ (z : ℤ). ltZ z (pos 0)) (passed (c .before .before .before .before .before))) ((c .before .before .before .before .before .size .ensures) ∙ ap natAbs (passed (c .before .before .before .before .before)))) (c .before .before .put-last .ensures)
+returns c =
+    let s = c .before .before .before .before .before .before .before .before .before .before .before .before .before .before in
+    let z = passed (c .before .before .before .before .before .before) in
+    stands-as (denote.Ref.now (s .args .out)) (s .args .at)
+    (end-line-is (s .args .m) (c .before .before .before .before .before .before .before .before .before .before .current-rank .ensures) (c .before .before .before .before .before .before .before .before .before .before .before .before .margin .ensures) (c .before .before .before .before .before .before .before .before .is-below .ensures ∙ ap (λ (z : ℤ). ltZ z (pos 0)) z) (c .before .before .before .before .before .before .size .ensures ∙ ap natAbs z))
+    (c .before .before .put-last .ensures)
 
 pub put-end-spec : {M : Type 1} → statement M
 put-end-spec =
     tie.close
     (tie.spec
     margin-requires
+    current-rank-requires
     is-below-requires
     size-requires
     cast-put-last
+    cast-put-last-2
     put-last-requires
     same-length
     returns)

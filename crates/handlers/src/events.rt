@@ -1,0 +1,96 @@
+// The controller's events on the machine, and an event of any kind: what they do once question 8 is answered yes.
+
+ghost use mathlib.Core.Path.{_≡_};
+ghost use Rattle.handlers.specs.Fields.{withController};
+ghost use Rattle.handlers.specs.Service.{lifted, sampleEvent, loadEvent, storeEvent, csrReadEvent, csrWriteEvent, soundStepOf};
+use crate::Machine;
+use crate::Outcome;
+use pic::Controller;
+
+impl Machine {
+    // The machine with another controller.
+    pub(crate) fn with_controller(self, c: Controller) -> Machine
+        ensures { λ m. ⌜ m ≡ withController self c ⌝ }
+    {
+        let s = self.stack;
+        Machine {
+            controller: c,
+            mask: self.mask,
+            depth: self.depth,
+            stack: s,
+        }
+    }
+
+    // The machine with the controller that an event of its own handed back.
+    fn lift(self, out: pic::Outcome) -> Outcome
+        ensures { λ r. ⌜ r ≡ lifted self out ⌝ }
+    {
+        Outcome {
+            machine: self.with_controller(out.controller),
+            answer: out.answer,
+            refusal: out.refusal,
+        }
+    }
+
+    pub(crate) fn sample_event(self, x: u32, v: u32) -> Outcome
+        ensures { λ r. ⌜ r ≡ sampleEvent self x v ⌝ }
+    {
+        let c = self.controller;
+        self.lift(pic_registers::sample(c, x, v))
+    }
+
+    pub(crate) fn load_event(self, offset: u32) -> Outcome
+        ensures { λ r. ⌜ r ≡ loadEvent self offset ⌝ }
+    {
+        let c = self.controller;
+        self.lift(pic_registers::load(c, offset))
+    }
+
+    pub(crate) fn store_event(self, offset: u32, v: u32) -> Outcome
+        ensures { λ r. ⌜ r ≡ storeEvent self offset v ⌝ }
+    {
+        let c = self.controller;
+        self.lift(pic_registers::store(c, offset, v))
+    }
+
+    pub(crate) fn csr_read_event(self, address: u32) -> Outcome
+        ensures { λ r. ⌜ r ≡ csrReadEvent self address ⌝ }
+    {
+        let c = self.controller;
+        self.lift(pic_csrs::csr_read(c, address))
+    }
+
+    pub(crate) fn csr_write_event(self, address: u32, v: u32) -> Outcome
+        ensures { λ r. ⌜ r ≡ csrWriteEvent self address v ⌝ }
+    {
+        if (address == 0xBCC) & (self.depth != 0) {
+            return self.refuse(14);
+        }
+        let c = self.controller;
+        self.lift(pic_csrs::csr_write(c, address, v))
+    }
+
+    // One event, a head and a value, on a machine that is known to be sound: 6 and 7, then the event by its kind.
+    pub(crate) fn sound_step(self, head: u32, value: u32) -> Outcome
+        ensures { λ r. ⌜ r ≡ soundStepOf self head value ⌝ }
+    {
+        let q = event::shape(head, value);
+        if q != 0 {
+            return self.refuse(q);
+        }
+        let address = event::address(head);
+        match event::kind(head) {
+            0 => self.sample_event(address, value),
+            1 => self.load_event(address),
+            2 => self.store_event(address, value),
+            3 => self.csr_read_event(address),
+            4 => self.csr_write_event(address, value),
+            5 => self.take_event(),
+            6 => self.open_event(),
+            7 => self.chain_event(),
+            8 => self.return_event(),
+            9 => self.set_mask_event(value),
+            _ => self.refuse(6),
+        }
+    }
+}

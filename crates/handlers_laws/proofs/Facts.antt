@@ -1,0 +1,100 @@
+-- What soundness of a machine says, in numbers: the Bool of the rules taken apart and put together; and why a handler above the current rank finds a place.
+use Prim.Native.Nat.{ℕ, zero, suc, _-_, _≤_, _<_}
+use mathlib.Core.Path.{_≡_, refl, ap}
+use mathlib.Core.Bool.{true}
+use mathlib.Core.Logic.{_⊎_, inl, inr, ⊎-elim}
+use native.Mathlib.Omega.{arith}
+use lib.ListN.{getD}
+use lib.Dec.{eqb}
+use lib.IntN.{pos}
+use lib.Signed.{ltZ}
+use borrow.Author.Tests.{leb-true, eqb-true, le-leb, eq-eqb}
+use Rattle.pic_source.specs.declared.Rank.{Rank}
+use Rattle.pic_source.proofs.Bools.{or-cases, or-intro, all-at}
+use Rattle.pic.specs.Sound as pic
+use Rattle.pic.specs.Calls.{sourceCount, currentRank}
+use Rattle.pic_laws.proofs.Captures.{look-found, margin-over}
+use Rattle.handlers_stack.specs.Stacks.{levelOf}
+use Rattle.handlers_stack.proofs.Stacks.{Fine, each, each-back, rank-high, level-opened}
+use Rattle.handlers.specs.declared.Machine.{Machine}
+use Rattle.handlers.specs.Machines.{uppermost, isOpen, soundTests, soundOf}
+use Rattle.handlers.specs.Service.{lookAt}
+
+pub record Sound (m : Machine) : Type 0 where
+  pub few : m .depth ≤ 15
+  pub bit : m .mask ≤ 1
+  pub handlers : (j : ℕ) → j < m .depth → Fine (sourceCount (m .controller)) (m .depth) (m .stack) j
+  pub current : (m .depth ≡ 0) ⊎ (currentRank (m .controller) .0 ≡ levelOf (uppermost m) .0)
+  pub masked : (m .mask ≡ 0) ⊎ ((m .depth ≡ 0) ⊎ (uppermost m .opened ≡ 1))
+  pub controller : pic.soundOf (m .controller) ≡ true
+
+-- There is no handler, or the uppermost is opened.
+pub open-cases : (m : Machine) → isOpen m ≡ true → (m .depth ≡ 0) ⊎ (uppermost m .opened ≡ 1)
+open-cases m e =
+    ⊎-elim (λ g. inl (eqb-true (m .depth) 0 g)) (λ g. inr (eqb-true (uppermost m .opened) 1 g))
+    (or-cases (eqb (m .depth) 0) (eqb (uppermost m .opened) 1) e)
+
+open-test : (m : Machine) → (m .depth ≡ 0) ⊎ (uppermost m .opened ≡ 1) → isOpen m ≡ true
+open-test m h =
+    or-intro (eqb (m .depth) 0) (eqb (uppermost m .opened) 1) (⊎-elim (λ g. inl (eq-eqb (m .depth) 0 g)) (λ g. inr (eq-eqb _ 1 g)) h)
+
+pub facts : (m : Machine) → soundOf m ≡ true → Sound m
+unfolding soundOf
+facts m e =
+    record {
+      few = leb-true _ _ (t 0);
+      bit = leb-true _ _ (t 1);
+      handlers = each (sourceCount (m .controller)) (m .depth) (m .stack) (m .depth) (t 2);
+      current =
+          ⊎-elim (λ f. inl (eqb-true (m .depth) 0 f)) (λ f. inr (eqb-true _ _ f))
+          (or-cases (eqb (m .depth) 0) (eqb (currentRank (m .controller) .0) (levelOf (uppermost m) .0)) (t 3));
+      masked = ⊎-elim (λ f. inl (eqb-true (m .mask) 0 f)) (λ f. inr (open-cases m f)) (or-cases (eqb (m .mask) 0) (isOpen m) (t 4));
+      controller = t 5;
+    }
+  where
+    t : (i : ℕ) → getD (soundTests m) i true ≡ true
+    t = all-at (soundTests m) e
+
+pub sound : (m : Machine) → Sound m → soundOf m ≡ true
+unfolding soundOf
+sound m f =
+    rw (
+      le-leb (m .depth) 15 (f .few),
+      le-leb (m .mask) 1 (f .bit),
+      each-back (sourceCount (m .controller)) (m .depth) (m .stack) (m .depth) (f .handlers),
+      or-intro (eqb (m .depth) 0) (eqb (currentRank (m .controller) .0) (levelOf (uppermost m) .0))
+          (⊎-elim (λ e. inl (eq-eqb (m .depth) 0 e)) (λ e. inr (eq-eqb _ _ e)) (f .current)),
+      or-intro (eqb (m .mask) 0) (isOpen m) (⊎-elim (λ e. inl (eq-eqb (m .mask) 0 e)) (λ e. inr (open-test m e)) (f .masked)),
+    )
+    (f .controller)
+
+-- The uppermost handler.
+pub top-fine : (m : Machine) → Sound m → 0 < m .depth → Fine (sourceCount (m .controller)) (m .depth) (m .stack) (m .depth - 1)
+top-fine m f h = f .handlers (m .depth - 1) (omega arith)
+
+-- With the mask on, the current rank is at least the number of handlers.
+current-high : (m : Machine) → Sound m → (m .mask ≡ 0 → ⊥) → m .depth ≤ currentRank (m .controller) .0
+current-high m f h = go (f .masked)
+  where
+    top : uppermost m .opened ≡ 1 → (m .depth ≡ 0) ⊎ (currentRank (m .controller) .0 ≡ levelOf (uppermost m) .0) → m .depth ≤ currentRank (m .controller) .0
+    top o (inl e) = omega arith
+    top o (inr e) = deep (m .depth) refl
+      where
+        deep : (d : ℕ) → m .depth ≡ d → m .depth ≤ currentRank (m .controller) .0
+        deep zero z = omega arith
+        deep (suc t) z =
+            let r = rank-high (sourceCount (m .controller)) (m .depth) (m .stack) (m .depth - 1) (omega arith) (f .handlers) in
+            let l : levelOf (uppermost m) .0 ≡ uppermost m .rank .0 = ap (λ (a : Rank). a .0) (level-opened (uppermost m) o) in
+            omega arith
+
+    go : (m .mask ≡ 0) ⊎ ((m .depth ≡ 0) ⊎ (uppermost m .opened ≡ 1)) → m .depth ≤ currentRank (m .controller) .0
+    go (inl e) = absurd (h e)
+    go (inr (inl e)) = omega arith
+    go (inr (inr o)) = top o (f .current)
+
+-- A winner above the current rank, with the mask on, leaves a place for one handler more.
+pub room : (m : Machine) → Sound m → (m .mask ≡ 0 → ⊥) → ltZ (pos 0) (lookAt m .margin) ≡ true → m .depth < 15
+room m h k e =
+    let c = m .controller in
+    let o = margin-over c e in
+    omega (arith, o .current, look-found c (h .controller) (omega (arith, o .current)) .rank-most, current-high m h k)

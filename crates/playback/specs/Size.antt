@@ -1,0 +1,19 @@
+-- Bytes that are enough for the print of any record: a first line, a line for each event and a last line, each as long as it can be.
+use Prim.Native.Nat.{ℕ, _+_, _*_}
+use Rattle.record.specs.Record.{mostEvents}
+
+-- The first line: two texts of 8 bytes, two numbers of at most 20 digits each, and the end of the line.
+abbrev pub firstLineSize : ℕ
+firstLineSize = 8 + 20 + 8 + 20 + 1
+
+-- The line of an event: index, kind, answer and refusal of at most 4, 2, 10 and 3 digits, three spaces, and the end of the line.
+abbrev pub eventLineSize : ℕ
+eventLineSize = 4 + 1 + 2 + 1 + 10 + 1 + 3 + 1
+
+-- The last line: texts of 9, 7 and 8 bytes, three numbers of at most 20 digits each, the margin's sign, and the end of the line.
+abbrev pub lastLineSize : ℕ
+lastLineSize = 9 + 20 + 7 + 20 + 8 + 1 + 20 + 1
+
+-- As many lines of events as a record has at most.
+abbrev pub printSize : ℕ
+printSize = firstLineSize + mostEvents * eventLineSize + lastLineSize

@@ -1,0 +1,58 @@
+-- Document 01, "The record": "the writer does the reverse". A record written and read, and one read and written.
+-- Where the first call refuses, its number and place are the answer, and nothing is left of the second.
+use mathlib.Core.Bool.{cond}
+use Prim.Native.Nat.{ℕ, _≤_}
+use mathlib.Core.Path.{_≡_}
+use mathlib.Core.List.{List, [], _∷_}
+use lib.ListN.{length}
+use Rattle.buffers.specs.Filled.{filled}
+use Rattle.record.specs.declared.Limits.{Limits}
+use Rattle.record.specs.declared.Verdict.{Verdict}
+use Rattle.record.specs.Record.{recordOf, sourcesOf, headsOf, valuesOf}
+use Rattle.record.specs.Questions.{readVerdict, writeVerdict}
+use Rattle.record.specs.Answers.{Answer, doneWith, refusedAt, allYes, readAnswer, readHeads, readValues, writeAnswer, writtenBytes}
+
+-- The second call's answer, unless the first refused.
+abbrev pub thenAnswer : Verdict → Answer → Answer
+thenAnswer v second = cond (allYes v) second (refusedAt (v .refusal) (v .place))
+
+-- What the second call leaves, unless the first refused.
+abbrev pub thenLeaves : Verdict → List ℕ → List ℕ → List ℕ
+thenLeaves v second old = cond (allYes v) second old
+
+-- Written, then read.
+abbrev pub writeReadAnswer : Limits → ℕ → List ℕ → List ℕ → ℕ → ℕ → ℕ → Answer
+writeReadAnswer limits sources heads values space headPlaces valuePlaces =
+    thenAnswer (writeVerdict limits sources heads values space) (readAnswer limits (recordOf sources heads values) headPlaces valuePlaces)
+
+abbrev pub writeReadHeads : Limits → ℕ → List ℕ → List ℕ → ℕ → List ℕ → List ℕ → List ℕ
+writeReadHeads limits sources heads values space headsBack valuesBack =
+    thenLeaves (writeVerdict limits sources heads values space) (readHeads limits (recordOf sources heads values) headsBack valuesBack) headsBack
+
+abbrev pub writeReadValues : Limits → ℕ → List ℕ → List ℕ → ℕ → List ℕ → List ℕ → List ℕ
+writeReadValues limits sources heads values space headsBack valuesBack =
+    thenLeaves (writeVerdict limits sources heads values space) (readValues limits (recordOf sources heads values) headsBack valuesBack) valuesBack
+
+-- For everything the writer accepts, reading what it wrote, where the arrays have n places, returns n, N, heads and values.
+abbrev pub ReadsBack : Limits → ℕ → List ℕ → List ℕ → ℕ → List ℕ → List ℕ → Answer → List ℕ → List ℕ → Type 0
+ReadsBack limits sources heads values space headsBack valuesBack answer headsExit valuesExit =
+    writeVerdict limits sources heads values space .refusal ≡ 0
+    → length heads ≤ length headsBack
+    → length heads ≤ length valuesBack
+    → (answer ≡ doneWith (length heads ∷ sources ∷ [])) × (headsExit ≡ filled heads headsBack) × (valuesExit ≡ filled values valuesBack)
+
+-- Read, then written.
+abbrev pub readWriteAnswer : Limits → List ℕ → ℕ → ℕ → ℕ → Answer
+readWriteAnswer limits bytes headPlaces valuePlaces space =
+    thenAnswer (readVerdict limits bytes headPlaces valuePlaces) (writeAnswer limits (sourcesOf bytes) (headsOf bytes) (valuesOf bytes) space)
+
+abbrev pub readWriteBytes : Limits → List ℕ → ℕ → ℕ → List ℕ → List ℕ
+readWriteBytes limits bytes headPlaces valuePlaces back =
+    thenLeaves (readVerdict limits bytes headPlaces valuePlaces) (writtenBytes limits (sourcesOf bytes) (headsOf bytes) (valuesOf bytes) back) back
+
+-- For everything the reader accepts, writing what it read, where there is room, returns the same bytes.
+abbrev pub WritesBack : Limits → List ℕ → ℕ → ℕ → List ℕ → Answer → List ℕ → Type 0
+WritesBack limits bytes headPlaces valuePlaces back answer backExit =
+    readVerdict limits bytes headPlaces valuePlaces .refusal ≡ 0
+    → length bytes ≤ length back
+    → (answer ≡ doneWith (length bytes ∷ [])) × (backExit ≡ filled bytes back)
