@@ -11,7 +11,8 @@ use Rattle.pic.specs.Calls.{sourceCount, setCurrent, captureOf}
 use Rattle.pic_registers.specs.Calls as registers
 use Rattle.pic_csrs.specs.Calls as csrs
 use Rattle.pic_laws.proofs.Kept.{load-same, csr-read-same}
-use Rattle.pic_laws.proofs.Sources.{Follows, arraysOf, arrays-follow, csr-write-arrays, capture-arrays, current-arrays, sample-follows, store-follows}
+use Rattle.pic_registers.proofs.Follow.{Follows}
+use Rattle.pic_laws.proofs.Sources.{arraysOf, arrays-follow, csr-write-arrays, capture-arrays, current-arrays, sample-follows, store-follows}
 use Rattle.handlers.specs.declared.Machine.{Machine}
 use Rattle.handlers.specs.Machines.{uppermost, soundOf}
 use Rattle.handlers.specs.Service.{lookAt}

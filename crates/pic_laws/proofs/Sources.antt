@@ -1,5 +1,5 @@
 -- The latches and the ranks of the sources after a call, source by source.
-use Prim.Native.Nat.{ℕ, _+_, _*_, _%_, _≤_, _<_}
+use Prim.Native.Nat.{ℕ, _+_, _*_, _%_, _≤_}
 use mathlib.Core.Path.{_≡_, refl, sym, ap, _∙_}
 use mathlib.Core.Bool.{Bool, true, false, cond, not, _&&_}
 use mathlib.Core.List.{List}
@@ -8,7 +8,7 @@ use native.Mathlib.Omega.{arith}
 use lib.ListN.{getD}
 use lib.Seq.{getD-set-same}
 use lib.Dec.{leb, ltb, eqb}
-use borrow.Author.Tests.{eqb-true, eqb-false, eq-eqb, ne-eqb, le-leb, lt-ltb}
+use borrow.Author.Tests.{eqb-true, eqb-false, eq-eqb, ne-eqb, le-leb}
 use Rattle.pic.specs.declared.Controller.{Controller}
 use Rattle.pic.specs.declared.Outcome.{Outcome}
 use Rattle.pic.specs.declared.Winner.{Winner}
@@ -17,7 +17,7 @@ use Rattle.pic_source.specs.Ranks.{rank, mirror}
 use Rattle.pic_source.specs.Sources.{isSource, latchAfter}
 use Rattle.pic_registers.specs.declared.Register.{Register}
 use Rattle.pic_registers.specs.declared.Register.the-variants.{Meipl, Meip, Meie, Mpiccfg, Meigwctrl, Meigwclr, NoRegister}
-use Rattle.pic.specs.Sources.{rankAt, enableAt, pendingAt, eligibleAt, isEligible, lineAt, polarityAt, latchAt}
+use Rattle.pic.specs.Sources.{rankAt, enableAt, pendingAt, eligibleAt, isEligible, latchAt}
 use Rattle.pic.specs.Sound.{soundOf}
 use Rattle.pic.specs.Calls.{accepts, asks, sourceCount, setCurrent, captureOf}
 use Rattle.pic_registers.specs.Registers.{sampled, writtenOf, clears}
@@ -26,13 +26,9 @@ use Rattle.pic_registers.specs.Calls.{sampleOf, storeOf}
 use Rattle.pic_csrs.specs.Calls.{csrWriteOf}
 use Rattle.pic_source.proofs.Bools.{never, eq-cases}
 use Rattle.pic.proofs.Soundness.{facts}
-use Rattle.pic_registers.proofs.Offsets.{offset-register, register-offset, register-valid}
-use Rattle.pic_registers.proofs.Follow.{sample-latch, store-latch, store-rank}
+use Rattle.pic_registers.proofs.Offsets.{offset-register, register-offset, register-valid, no-meipl, meipl-at, meipl-accepted}
+use Rattle.pic_registers.proofs.Follow.{Follows, sample-latch, store-latch, store-rank}
 use Rattle.pic_laws.proofs.Kept.{ask-keeps, same-csr-write}
-
--- The latch of source s in d is set if its line is active there, and else as it was before.
-abbrev pub Follows : Controller → ℕ → ℕ → Type 0
-Follows d s before = latchAt d s ≡ latchAfter (lineAt d s) (polarityAt d s) before
 
 -- The arrays that the laws below look at.
 pub record Arrays : Type 0 where
@@ -85,7 +81,7 @@ store-rank-kept c o v s d = go (eqb (offsetRefusal o) 0) refl
         → rankAt (asks c t (offsetRefusal o) (accepts (writtenOf c (registerAt (c .sources) o) v) 0) .controller) s ≡ rankAt c s
     go true f =
         store-rank c (registerAt (c .sources) o) v s
-        (λ z. d (sym (register-offset (c .sources) o (Meipl s) (aligned o (eqb-true (offsetRefusal o) 0 f)) z (λ g. let y : _≡_ {A = ℕ} 0 1 = cc in omega arith))))
+        (λ z. d (sym (register-offset (c .sources) o (Meipl s) (aligned o (eqb-true (offsetRefusal o) 0 f)) z no-meipl)))
     go false f = refl
 
 -- A sample changes no rank.
@@ -152,13 +148,10 @@ module _ (c : Controller) (e : soundOf c ≡ true) (s : ℕ) (a : 1 ≤ s) (b : 
 
   -- K2: with priord 1 field 15 is rank 0, and a source of rank 0 is not eligible.
   pub field-15-stored : c .scalars .priord ≡ 1 → eligibleAt (storeOf c (4 * s) 15 .controller) s ≡ false
-  unfolding storeOf offsetRefusal writtenOf isEligible mirror
+  unfolding storeOf writtenOf isEligible mirror
   field-15-stored p =
       let n = facts c e .most in
-      let r : registerAt (c .sources) (4 * s) ≡ Meipl s = offset-register (c .sources) n (Meipl s) is-source (λ f. let z : _≡_ {A = ℕ} 0 1 = cc in omega arith) in
-      let l : s < 256 = omega (arith, n, here) in
-      let m : 4 * s % 4 ≡ 0 = omega arith in
-      rw (lt-ltb (4 * s) 0x8000 (omega arith), m, r, p, getD-set-same (c .rank) s 0 0 (omega (arith, facts c e .columns .rank .long, here))) (none (eqb (enableAt c s) 1) (pendingAt c s))
+      rw (meipl-accepted (c .sources) s n is-source, meipl-at (c .sources) s n is-source, p, getD-set-same (c .rank) s 0 0 (omega (arith, facts c e .columns .rank .long, here))) (none (eqb (enableAt c s) 1) (pendingAt c s))
     where
       none : (x y : Bool) → x && y && false ≡ false
       none true true = refl

@@ -2,33 +2,28 @@
 use Prim.Native.Nat.{ℕ, _*_, _%_, _≤_}
 use mathlib.Core.Path.{_≡_}
 use mathlib.Core.Bool.{true}
-use native.Mathlib.Omega.{arith}
-use borrow.Author.Tests.{le-leb, lt-ltb}
+use borrow.Author.Tests.{le-leb}
 use Rattle.pic.specs.declared.Controller.{Controller}
 use Rattle.pic_source.specs.Sources.{isSource}
 use Rattle.pic.specs.Sources.{thresholdOf, claimedOf, currentOf}
 use Rattle.pic.specs.Sound.{soundOf}
 use Rattle.pic.specs.Calls.{sourceCount}
-use Rattle.pic_registers.specs.declared.Register.the-variants.{Meipl}
-use Rattle.pic_registers.specs.Offsets.{registerAt, offsetRefusal}
 use Rattle.pic_registers.specs.Calls.{loadOf}
 use Rattle.pic_csrs.specs.Addresses.{csrAt}
 use Rattle.pic_csrs.specs.Values.{csrValue}
 use Rattle.pic_csrs.specs.Calls.{csrReadOf}
 use Rattle.pic_source.proofs.Mirror.{mirror-small}
 use Rattle.pic.proofs.Soundness.{facts}
-use Rattle.pic_registers.proofs.Offsets.{offset-register}
+use Rattle.pic_registers.proofs.Offsets.{meipl-at, meipl-accepted}
 use Rattle.pic_registers.proofs.Follow.{read-field}
 
 module _ (c : Controller) (e : soundOf c ≡ true) where
   pub load-field : (s : ℕ) → 1 ≤ s → s ≤ sourceCount c → loadOf c (4 * s) .answer ≤ 15
-  unfolding loadOf offsetRefusal sourceCount
+  unfolding loadOf sourceCount
   load-field s a b =
       let f = facts c e in
       let i : isSource (c .sources) s ≡ true = rw (le-leb 1 s a, le-leb s (c .sources) b) in
-      let r : registerAt (c .sources) (4 * s) ≡ Meipl s = offset-register (c .sources) (f .most) (Meipl s) i (λ g. let z : _≡_ {A = ℕ} 0 1 = cc in omega arith) in
-      let m : 4 * s % 4 ≡ 0 = omega arith in
-      rw (lt-ltb (4 * s) 0x8000 (omega (arith, f .most)), m, r) (read-field c s f i)
+      rw (meipl-accepted (c .sources) s (f .most) i, meipl-at (c .sources) s (f .most) i) (read-field c s f i)
 
   pub read-meipt : csrReadOf c 0xBC9 .answer ≤ 15
   unfolding csrReadOf csrAt csrValue

@@ -25,7 +25,7 @@ use Rattle.pic.proofs.Soundness.{Sound}
 use Rattle.pic_registers.proofs.Words.{line-sampled, line-kept, latch-sampled, latch-kept}
 
 -- The latch of source s follows its line: from what it was, or from 0 where it is cleared.
-abbrev Follows : Controller → ℕ → ℕ → Type 0
+abbrev pub Follows : Controller → ℕ → ℕ → Type 0
 Follows d s latch = latchAt d s ≡ latchAfter (lineAt d s) (polarityAt d s) latch
 
 in-word : (c : Controller) (x v y : ℕ) → Sound c → y < 32 → isSource (c .sources) (sourceOf x y) ≡ true

@@ -4,11 +4,11 @@ use mathlib.Core.Path.{_≡_, refl, sym, ap, _∙_}
 use mathlib.Core.Bool.{Bool, true, false, cond}
 use native.Mathlib.Omega.{arith}
 use lib.Dec.{eqb, ltb}
-use borrow.Author.Tests.{eqb-true, ltb-true}
+use borrow.Author.Tests.{eqb-true, ltb-true, lt-ltb}
 use Rattle.pic_registers.specs.declared.Register.{Register}
 use Rattle.pic_registers.specs.declared.Register.the-variants.{Meipl, Meip, Meie, Mpiccfg, Meigwctrl, Meigwclr, NoRegister}
 use Rattle.pic_source.specs.Sources.{isSource}
-use Rattle.pic_registers.specs.Offsets.{offsetOf, isRegister, sourceRegister, pageRegister, registerAt}
+use Rattle.pic_registers.specs.Offsets.{offsetOf, isRegister, sourceRegister, pageRegister, registerAt, offsetRefusal}
 use Rattle.pic_source.proofs.Ranges.{source-range}
 
 -- The page and the word of an offset in it.
@@ -95,3 +95,17 @@ register-valid n offset =
     go false b p true false f q = refl
     go false b p false e true q = source-valid n (offset / 4096) (offset % 4096 / 4) q
     go false b p false e false q = refl
+
+-- meiplS is at 4 × S, which passes 10 and 11.
+pub no-meipl : {s : ℕ} → Meipl s ≡ NoRegister → ⊥
+no-meipl f = let z : _≡_ {A = ℕ} 0 1 = cc in omega arith
+
+pub meipl-at : (n s : ℕ) → n ≤ 255 → isSource n s ≡ true → registerAt n (4 * s) ≡ Meipl s
+meipl-at n s h i = offset-register n h (Meipl s) i no-meipl
+
+pub meipl-accepted : (n s : ℕ) → n ≤ 255 → isSource n s ≡ true → offsetRefusal (4 * s) ≡ 0
+unfolding offsetRefusal
+meipl-accepted n s h i =
+    let r = source-range n s i in
+    let m : 4 * s % 4 ≡ 0 = omega arith in
+    rw (lt-ltb (4 * s) 0x8000 (omega arith), m)
