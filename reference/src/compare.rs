@@ -2,30 +2,35 @@
 
 use crate::generate::{generate, FAMILIES};
 use crate::player::{self, Tally};
-use crate::random::Random;
-use std::io::{self, Read, Write};
-use std::path::Path;
-use std::process::{ChildStdin, Command, Stdio};
-use std::sync::mpsc;
-use std::thread;
-use std::time::Duration;
+use crate::program::{shown, ways, Program};
+use crate::record::{self, MOST_EVENTS};
 
-/// A player that says nothing for so long is taken to hang.
-const PATIENCE: Duration = Duration::from_secs(60);
-
-/// What is compared: a player with its arguments, and which records.
+/// What is compared: a program, and how many inputs of which seed it gets.
 pub struct Comparison<'a> {
-    pub player: &'a Path,
-    pub arguments: &'a [String],
+    pub program: Program<'a>,
     pub count: u64,
     pub seed: u64,
 }
 
+impl Comparison<'_> {
+    pub(crate) fn check(&self) -> Result<(), String> {
+        if self.count == 0 {
+            return Err("COUNT is 0: nothing would be compared".to_string());
+        }
+        Ok(())
+    }
+}
+
+/// Where the program and this one part.
 pub struct Difference {
+    pub seed: u64,
     pub index: u64,
+    /// What the program was given: a record or a text.
+    pub what: &'static str,
     pub family: &'static str,
+    pub input: Vec<u8>,
     pub in_pieces: bool,
-    pub record: Vec<u8>,
+    /// The first that is different, as both wrote it, or how else the program ended.
     pub reason: String,
 }
 
@@ -36,13 +41,14 @@ pub struct Summary {
     pub families: Vec<(&'static str, u64, Tally)>,
 }
 
-pub enum Verdict {
-    Alike(Box<Summary>),
+pub enum Verdict<S> {
+    Alike(Box<S>),
     Different(Difference),
 }
 
 /// Compares record after record, up to the first difference.
-pub fn compare(comparison: &Comparison) -> io::Result<Verdict> {
+pub fn compare(comparison: &Comparison) -> Result<Verdict<Summary>, String> {
+    comparison.check()?;
     let none = |&(name, _): &(&'static str, _)| (name, 0, Tally::default());
     let mut summary = Summary {
         count: comparison.count,
@@ -52,18 +58,20 @@ pub fn compare(comparison: &Comparison) -> io::Result<Verdict> {
     for index in 0..comparison.count {
         let generated = generate(comparison.seed, index);
         let (expected, tally) = player::play(&generated.bytes);
-        let also_in_pieces = index % 16 == 0;
-        for in_pieces in [false, true] {
-            if in_pieces && !also_in_pieces {
-                continue;
-            }
-            let printed = run(comparison, &generated.bytes, in_pieces)?;
-            if let Some(reason) = difference(&expected, printed) {
+        for &in_pieces in ways(index) {
+            let written = comparison.program.run(&generated.bytes, in_pieces, false)?;
+            let reason = match written {
+                Ok(written) => difference(&generated.bytes, expected.as_bytes(), &written.output),
+                Err(ending) => Some(format!("the player: {ending}")),
+            };
+            if let Some(reason) = reason {
                 return Ok(Verdict::Different(Difference {
+                    seed: comparison.seed,
                     index,
+                    what: "record",
                     family: generated.family,
+                    input: generated.bytes,
                     in_pieces,
-                    record: generated.bytes,
                     reason,
                 }));
             }
@@ -79,96 +87,56 @@ pub fn compare(comparison: &Comparison) -> io::Result<Verdict> {
     Ok(Verdict::Alike(Box::new(summary)))
 }
 
-/// What a player printed, or why it can't be said.
-type Printed = Result<Vec<u8>, String>;
-
-fn run(comparison: &Comparison, record: &[u8], in_pieces: bool) -> io::Result<Printed> {
-    let mut child = Command::new(comparison.player)
-        .args(comparison.arguments)
-        .stdin(Stdio::piped())
-        .stdout(Stdio::piped())
-        .spawn()?;
-    let input = child.stdin.take().expect("standard input is piped");
-    let mut output = child.stdout.take().expect("standard output is piped");
-
-    let bytes = record.to_vec();
-    let writer = thread::spawn(move || feed(input, &bytes, in_pieces));
-    let (sender, receiver) = mpsc::channel();
-    let reader = thread::spawn(move || {
-        let mut printed = Vec::new();
-        let result = output.read_to_end(&mut printed).map(|_| printed);
-        // The receiver is gone if it lost patience.
-        let _ = sender.send(result);
-    });
-
-    let received = receiver.recv_timeout(PATIENCE);
-    if received.is_err() {
-        child.kill()?;
-    }
-    let status = child.wait()?;
-    writer.join().expect("the writing thread ends");
-    reader.join().expect("the reading thread ends");
-    let printed = match received {
-        Ok(result) => result?,
-        Err(_) => return Ok(Err(format!("no end of print in {} s", PATIENCE.as_secs()))),
-    };
-    if status.code().is_none() {
-        return Ok(Err(format!("the player ended by {status}")));
-    }
-    Ok(Ok(printed))
-}
-
-/// Gives the record to the player. A player may stop reading early, so failures don't count.
-fn feed(mut input: ChildStdin, record: &[u8], in_pieces: bool) {
-    if !in_pieces {
-        let _ = input.write_all(record);
-        return;
-    }
-    let mut random = Random::new(record.len() as u64);
-    let mut rest = record;
-    let mut pieces = 0;
-    while !rest.is_empty() {
-        let size = (random.between(1, 9) as usize).min(rest.len());
-        let (piece, after) = rest.split_at(size);
-        if input.write_all(piece).is_err() {
-            return;
-        }
-        rest = after;
-        pieces += 1;
-        // A pause lets the player read what is there, less than it asked for.
-        if pieces <= 20 || after.len() < 20 || random.chance(1, 100) {
-            thread::sleep(Duration::from_micros(50));
-        }
-    }
-}
-
-fn difference(expected: &str, printed: Printed) -> Option<String> {
-    let printed = match printed {
-        Ok(printed) => printed,
-        Err(reason) => return Some(reason),
-    };
-    if printed == expected.as_bytes() {
+fn difference(record: &[u8], expected: &[u8], printed: &[u8]) -> Option<String> {
+    if printed == expected {
         return None;
     }
-    let mine: Vec<&[u8]> = expected
-        .as_bytes()
-        .split_inclusive(|&byte| byte == b'\n')
-        .collect();
+    let mine: Vec<&[u8]> = expected.split_inclusive(|&byte| byte == b'\n').collect();
     let theirs: Vec<&[u8]> = printed.split_inclusive(|&byte| byte == b'\n').collect();
     let mut place = 0;
     while mine.get(place).is_some() && mine.get(place) == theirs.get(place) {
         place += 1;
     }
-    let show = |line: Option<&&[u8]>| match line {
-        Some(line) => format!("{:?}", String::from_utf8_lossy(line)),
-        None => "nothing".to_string(),
-    };
+    let line = |lines: &[&[u8]]| shown(lines.get(place).unwrap_or(&&b""[..]));
     Some(format!(
-        "line {}: reference {}, player {}",
+        "line {}, {}\n  reference {}\n  player    {}",
         place + 1,
-        show(mine.get(place)),
-        show(theirs.get(place))
+        what_line(record, place),
+        line(&mine),
+        line(&theirs)
     ))
+}
+
+/// What a line of a record's print is about; lines count from 0 here.
+fn what_line(record: &[u8], line: usize) -> String {
+    let events = match record::read(record, MOST_EVENTS) {
+        Ok(record) => record.events,
+        Err(_) if line == 0 => return "the line of the refusal".to_string(),
+        Err(_) => return "after the line of the refusal".to_string(),
+    };
+    if line == 0 {
+        return "the first line".to_string();
+    }
+    let index = line - 1;
+    match events.get(index) {
+        Some(event) => format!("event {index}, {event}"),
+        None if index == events.len() => "the last line".to_string(),
+        None => "after the last line".to_string(),
+    }
+}
+
+impl Difference {
+    pub fn text(&self) -> String {
+        let pieces = if self.in_pieces {
+            ", fed in pieces"
+        } else {
+            ""
+        };
+        format!(
+            "seed {}, {} {}, family {}{pieces}: different\n{}\n",
+            self.seed, self.what, self.index, self.family, self.reason
+        )
+    }
 }
 
 impl Summary {

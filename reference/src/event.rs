@@ -1,5 +1,7 @@
 //! Events as they stand in a record, and the actions they ask for.
 
+use std::fmt;
+
 /// A head and a value, as in the record.
 #[derive(Clone, Copy, Debug, PartialEq, Eq)]
 pub struct Event {
@@ -31,6 +33,13 @@ pub enum Action {
     Chain,
     Return,
     SetMask { value: u32 },
+}
+
+/// Head and value in hexadecimal, the head in eight digits.
+impl fmt::Display for Event {
+    fn fmt(&self, text: &mut fmt::Formatter) -> fmt::Result {
+        write!(text, "{:08x}:{:x}", self.head, self.value)
+    }
 }
 
 impl Event {

@@ -52,11 +52,15 @@ pub const FAMILIES: &[Family] = &[
     ("noise", noise),
 ];
 
-/// Record `index` of `seed`. Every round goes through all families, each round from another start.
+/// Which of `size` families is next. Every round goes through all, each round from another start.
+pub fn turn(index: u64, size: usize) -> usize {
+    let size = size as u64;
+    ((index % size + index / size) % size) as usize
+}
+
+/// Record `index` of `seed`.
 pub fn generate(seed: u64, index: u64) -> Generated {
-    let size = FAMILIES.len() as u64;
-    let place = (index % size + index / size) % size;
-    let (family, build) = FAMILIES[place as usize];
+    let (family, build) = FAMILIES[turn(index, FAMILIES.len())];
     let mut random = Random::for_index(seed, index);
     Generated {
         family,
@@ -315,8 +319,9 @@ fn disturb(script: &mut Script, random: &mut Random) {
 
 /// Chains at the uppermost handler: served, or answered by 0 for one reason or another.
 fn chain_variants(script: &mut Script, random: &mut Random) {
-    let Some(top) = script.machine.handlers.last().cloned() else {
-        return;
+    let top = match script.machine.handlers.last() {
+        Some(top) => top.clone(),
+        None => return,
     };
     let own = top.source as u32;
     let other = script.a_source();
@@ -944,7 +949,7 @@ fn samples(random: &mut Random) -> Vec<u8> {
 
 // Damaged records.
 
-fn small_record(random: &mut Random) -> Record {
+pub(crate) fn small_record(random: &mut Random) -> Record {
     let mut script = Script::new(random);
     script.room = random.between(0, 12) as usize;
     script.wander(&EVEN, 12);
@@ -1030,13 +1035,37 @@ fn wrong_sources(random: &mut Random) -> Vec<u8> {
     bytes
 }
 
+/// Bits flipped anywhere, or only where the reader still takes the record.
 fn flipped(random: &mut Random) -> Vec<u8> {
+    if random.coin() {
+        return flipped_events(random);
+    }
     let mut bytes = bytes_of(&small_record(random));
     for _ in 0..random.between(1, 3) {
         let place = random.below(bytes.len() as u32) as usize;
         bytes[place] ^= 1 << random.below(8);
     }
     bytes
+}
+
+/// Kinds, addresses and values flipped with no look at the state; the unused parts stay 0.
+fn flipped_events(random: &mut Random) -> Vec<u8> {
+    let mut record = with_events(random);
+    let mut flips = random.between(1, 6);
+    while flips > 0 {
+        let place = random.below(record.events.len() as u32) as usize;
+        let mut event = record.events[place];
+        if random.coin() {
+            event.head ^= 1 << random.below(20);
+        } else {
+            event.value ^= 1 << random.below(32);
+        }
+        if event.action().is_ok() {
+            record.events[place] = event;
+            flips -= 1;
+        }
+    }
+    bytes_of(&record)
 }
 
 fn tiny(random: &mut Random) -> Vec<u8> {
@@ -1069,7 +1098,7 @@ fn too_long(random: &mut Random) -> Vec<u8> {
     bytes
 }
 
-fn bad_kind(random: &mut Random) -> u32 {
+pub(crate) fn bad_kind(random: &mut Random) -> u32 {
     match random.below(4) {
         0 => random.pick(&[10, 11, 12, 15, 16, 0x100, 0x8000, 0xFFFF]),
         1 => random.below(10) | 1 << random.between(4, 15),
@@ -1079,7 +1108,7 @@ fn bad_kind(random: &mut Random) -> u32 {
 }
 
 /// Sets an unused part of an event, if its kind has one.
-fn use_unused(event: &mut Event, random: &mut Random) {
+pub(crate) fn use_unused(event: &mut Event, random: &mut Random) {
     let bit = 1 << random.below(16);
     let kind = event.kind();
     let unused_value = matches!(kind, LOAD | CSR_READ | TAKE | OPEN | CHAIN | RETURN);
@@ -1091,7 +1120,7 @@ fn use_unused(event: &mut Event, random: &mut Random) {
     }
 }
 
-fn with_events(random: &mut Random) -> Record {
+pub(crate) fn with_events(random: &mut Random) -> Record {
     let mut script = Script::new(random);
     script.room = random.between(1, 30) as usize;
     script.wander(&EVEN, 30);
@@ -1171,8 +1200,11 @@ fn several_faults(random: &mut Random) -> Vec<u8> {
     bytes
 }
 
-/// A fitting head over random words, or random bytes alone.
+/// Random words that the reader takes, a fitting head over random words, or random bytes alone.
 fn noise(random: &mut Random) -> Vec<u8> {
+    if random.coin() {
+        return noise_of_events(random);
+    }
     let count = random.below(20);
     let mut bytes: Vec<u8> = (0..8 + 8 * count).map(|_| random.word() as u8).collect();
     if random.chance(3, 4) {
@@ -1190,6 +1222,35 @@ fn noise(random: &mut Random) -> Vec<u8> {
         }
     }
     bytes
+}
+
+/// Known kinds over random words, often cut to what the kind looks at; the unused parts are 0.
+/// Before them come a few events that lead somewhere.
+fn noise_of_events(random: &mut Random) -> Vec<u8> {
+    let mut record = with_events(random);
+    let cut = random.below(9);
+    for _ in 0..random.between(1, 100) {
+        let kind = random.below(10);
+        let (mut address, mut value) = (random.below(0x10000), random.word());
+        if random.chance(cut, 8) {
+            address = match kind {
+                SAMPLE => address & 7,
+                LOAD | STORE => address & 0x701C,
+                _ => address & 0x0407 | 0x0BC8,
+            };
+            if kind == SET_MASK || random.coin() {
+                value &= 1;
+            }
+        }
+        if kind >= TAKE {
+            address = 0;
+        }
+        if !matches!(kind, SAMPLE | STORE | CSR_WRITE | SET_MASK) {
+            value = 0;
+        }
+        record.events.push(Event::new(kind, address, value));
+    }
+    bytes_of(&record)
 }
 
 // Records for measurements.

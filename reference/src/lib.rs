@@ -1,10 +1,14 @@
 //! A reference player for records of the VeeR EH1 interrupt controller.
 
 pub mod compare;
+pub mod compare_text;
 pub mod event;
 pub mod generate;
 pub mod machine;
 pub mod player;
+pub mod program;
 pub mod random;
 pub mod record;
 pub mod script;
+pub mod text;
+pub mod texts;

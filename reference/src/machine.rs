@@ -132,7 +132,7 @@ impl Machine {
     fn values_in_range(&self) -> bool {
         (2..=255).contains(&self.count())
             && self.sources.iter().all(|source| source.rank <= 15)
-            && self.base.is_multiple_of(1024)
+            && self.base % 1024 == 0
             && self.claim <= self.count()
             && self.threshold <= 15
             && self.claimed <= 15
@@ -147,8 +147,9 @@ impl Machine {
     }
 
     fn handlers_sound(&self) -> bool {
-        let Some(top) = self.handlers.last() else {
-            return true;
+        let top = match self.handlers.last() {
+            Some(top) => top,
+            None => return true,
         };
         let each = self.handlers.iter().all(|handler| {
             (1..=self.count()).contains(&handler.source) && (1..=15).contains(&handler.rank)
@@ -228,7 +229,7 @@ impl Machine {
             Action::Sample { word, .. } => require(word <= 7, 9),
             Action::Load { offset } | Action::Store { offset, .. } => {
                 require(offset < 0x8000, 10)?;
-                require(offset.is_multiple_of(4), 11)
+                require(offset % 4 == 0, 11)
             }
             Action::CsrRead { address } => require(CSRS.contains(&address), 12),
             Action::CsrWrite { address, .. } => {
@@ -250,7 +251,7 @@ impl Machine {
             }
             Action::SetMask { value } => {
                 require(value <= 1, 20)?;
-                let may_unmask = self.handlers.last().is_none_or(|top| top.opened);
+                let may_unmask = self.handlers.last().map_or(true, |top| top.opened);
                 require(value == 0 || may_unmask, 21)
             }
         }
@@ -399,8 +400,9 @@ impl Machine {
     }
 
     fn open(&mut self) -> u32 {
-        let Some(top) = self.handlers.last_mut() else {
-            return 0;
+        let top = match self.handlers.last_mut() {
+            Some(top) => top,
+            None => return 0,
         };
         top.opened = true;
         self.current = top.rank;

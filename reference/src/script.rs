@@ -349,8 +349,9 @@ impl Script {
 
     /// Makes a source of the uppermost handler's rank pending, and often the winner.
     pub fn provoke_chain(&mut self) {
-        let Some(top) = self.machine.handlers.last().cloned() else {
-            return;
+        let top = match self.machine.handlers.last() {
+            Some(top) => top.clone(),
+            None => return,
         };
         if self.random.coin() {
             self.quiet(top.source as u32);

@@ -3,6 +3,7 @@
 use reference::generate::{bench_record, generate, FAMILIES};
 use reference::machine::Machine;
 use reference::player::{self, Tally};
+use reference::random::Random;
 use reference::record;
 
 /// Enough for every family several times.
@@ -13,8 +14,9 @@ fn every_event_keeps_the_machine_sound() {
     let mut events = 0;
     for index in 0..RECORDS {
         let generated = generate(7, index);
-        let Ok(record) = record::read(&generated.bytes, 4000) else {
-            continue;
+        let record = match record::read(&generated.bytes, 4000) {
+            Ok(record) => record,
+            Err(_) => continue,
         };
         let (mut machine, _) = Machine::power_on(record.sources);
         assert!(machine.sound());
@@ -47,6 +49,27 @@ fn every_refusal_of_a_player_occurs() {
     assert!(all.accepted.iter().all(|&times| times > 100));
     assert!(all.chains_served > 100);
     assert_eq!(all.deepest, 15);
+}
+
+/// Of `rounds` records of a family, how many are accepted and have events.
+fn played(family: &str, rounds: u64) -> u64 {
+    let (_, build) = FAMILIES.iter().find(|found| found.0 == family).unwrap();
+    let records = (0..rounds).map(|round| build(&mut Random::for_index(1, round)));
+    let plays = |bytes: &Vec<u8>| player::play(bytes).1.events > 0;
+    records.filter(plays).count() as u64
+}
+
+#[test]
+fn half_of_the_flipped_and_noisy_records_play() {
+    let rounds = 600;
+    for family in ["flipped bits", "noise"] {
+        let played = played(family, rounds);
+        assert!(played >= rounds * 48 / 100, "{family}: {played}");
+        // The rest is still damaged.
+        assert!(played <= rounds * 75 / 100, "{family}: {played}");
+    }
+    assert_eq!(played("mixed", 10), 10);
+    assert_eq!(played("unknown kind", 10), 0);
 }
 
 #[test]

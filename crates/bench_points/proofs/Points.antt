@@ -26,7 +26,7 @@ use Rattle.digits.specs.Digits.{digitsTo}
 use Rattle.record.specs.Words.{wordsOf, bytesOfWords}
 use Rattle.record.specs.Record.{recordOf}
 use Rattle.record.specs.Questions.{readVerdict, walkFrom}
-use Rattle.playback.specs.Text.{ascii}
+use Rattle.digits.specs.Ascii.{ascii}
 use Rattle.playback.specs.Print.{eventLines, printOf}
 use Rattle.bench_points.specs.Points.{Points, Plays, Holds, after, listing-text, fifteen-up, fifteen-down, fifteen-handlers}
 

@@ -19,7 +19,7 @@ use Rattle.handlers.specs.Machines.{soundOf, powerOnOf}
 use Rattle.handlers.specs.Calls.{storeOf, stepOf, marginAnswer}
 use Rattle.claims.specs.Play.{endOf, answersOf, refusalsOf}
 use Rattle.record.specs.Record.{recordOf}
-use Rattle.playback.specs.Text.{ascii}
+use Rattle.digits.specs.Ascii.{ascii}
 use Rattle.playback.specs.Print.{endLine, printOf}
 
 -- A row: an event, "a head and a value", with the answer and the refusal that it must get.

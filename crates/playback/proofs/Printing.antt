@@ -12,7 +12,7 @@ use Rattle.digits.proofs.Meaning.{digits-length}
 use Rattle.digits.proofs.Pieces.{Stands, two, stands-as}
 use Rattle.event.specs.Event.{kindOf}
 use Rattle.event.proofs.Laws.{kinds-two-digits}
-use Rattle.playback.specs.Text.{ascii}
+use Rattle.digits.specs.Ascii.{ascii}
 use Rattle.record.specs.Record.{mostEvents}
 use Rattle.playback.specs.Size.{eventLineSize}
 use Rattle.playback.specs.Print.{eventLine, eventLines, KnownKinds}

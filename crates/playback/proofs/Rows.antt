@@ -3,7 +3,7 @@ use Prim.Native.Nat.{ℕ, _+_, _≤_}
 use mathlib.Core.Path.{_≡_, sym, ap, _∙_}
 use mathlib.Core.List.{List, _++_, append-assoc}
 use lib.ListN.{length}
-use Rattle.playback.specs.Text.{ascii}
+use Rattle.digits.specs.Ascii.{ascii}
 
 pub three-behind : (x a b c : List ℕ) → x ++ (a ++ b ++ c) ≡ x ++ a ++ b ++ c
 three-behind x a b c = sym (append-assoc x (a ++ b) c) ∙ ap (λ (l : List ℕ). l ++ c) (sym (append-assoc x a b))

@@ -23,9 +23,9 @@ use Rattle.handlers.specs.Calls.{marginAnswer}
 use Rattle.digits.specs.Digits.{decimal}
 use Rattle.digits.proofs.Digits.{digits-most}
 use Rattle.digits.proofs.Pieces.{Stands, two, stands-as}
-use Rattle.playback.specs.Text.{ascii, minus}
-use Rattle.record.specs.Record.{mostEvents}
-use Rattle.playback.specs.Size.{firstLineSize, eventLineSize, lastLineSize, printSize}
+use Rattle.digits.specs.Ascii.{ascii}
+use Rattle.playback.specs.Text.{minus}
+use Rattle.playback.specs.Size.{firstLineSize, eventLineSize, lastLineSize, printRoom}
 use Rattle.playback.specs.Print.{firstLine, eventLines, lastLine, endLine, refusedLine, playedLines}
 
 number-length : (n : ℕ) → length (decimal n) ≤ 20
@@ -62,30 +62,30 @@ pub end-line-is : (m : Machine) {level : Rank} {q : Margin} {below : Bool} {size
 end-line-is m el eq eb es = rw (eb, es, eq, el)
 
 -- There is room for each part.
-pub first-fits : (n sources events : ℕ) → printSize ≤ n → 0 + length (firstLine sources events) ≤ n
+pub first-fits : (n sources events : ℕ) → printRoom events ≤ n → 0 + length (firstLine sources events) ≤ n
 first-fits n sources events h = omega (arith, h, first-length sources events)
 
-pub refused-fits : (n refusal place : ℕ) → printSize ≤ n → 0 + length (refusedLine refusal place) ≤ n
+pub refused-fits : (n refusal place : ℕ) → printRoom 0 ≤ n → 0 + length (refusedLine refusal place) ≤ n
 refused-fits n refusal place h = omega (arith, h, refused-length refusal place)
 
-pub events-fit : (out : List ℕ) (sources events n : ℕ) {d : List ℕ} {a : ℕ} → printSize ≤ length out → n ≤ mostEvents → Stands out 0 (firstLine sources events) a d → a + eventLineSize * n ≤ length d
-events-fit out sources events n {d} {a} h few (e, f) =
-    rw (f, length-sets out 0 (firstLine sources events)) (omega (arith, h, few, e, first-length sources events))
+pub events-fit : (out : List ℕ) (sources n : ℕ) {d : List ℕ} {a : ℕ} → printRoom n ≤ length out → Stands out 0 (firstLine sources n) a d → a + eventLineSize * n ≤ length d
+events-fit out sources n {d} {a} h (e, f) =
+    rw (f, length-sets out 0 (firstLine sources n)) (omega (arith, h, e, first-length sources n))
 
-pub end-fits : (out : List ℕ) (sources events n : ℕ) (lines : List ℕ) {d₁ d₂ : List ℕ} {a b : ℕ} → printSize ≤ length out → n ≤ mostEvents → Stands out 0 (firstLine sources events) a d₁
+pub end-fits : (out : List ℕ) (sources n : ℕ) (lines : List ℕ) {d₁ d₂ : List ℕ} {a b : ℕ} → printRoom n ≤ length out → Stands out 0 (firstLine sources n) a d₁
     → Stands d₁ a lines b d₂ → b ≤ a + eventLineSize * n → b + lastLineSize ≤ length d₂
-end-fits out sources events n lines {d₁} {d₂} {a} {b} h few (e₁, f₁) (e₂, f₂) most =
-    rw (f₂, length-sets d₁ a lines, f₁, length-sets out 0 (firstLine sources events)) (omega (arith, h, few, e₁, most, first-length sources events))
+end-fits out sources n lines {d₁} {d₂} {a} {b} h (e₁, f₁) (e₂, f₂) most =
+    rw (f₂, length-sets d₁ a lines, f₁, length-sets out 0 (firstLine sources n)) (omega (arith, h, e₁, most, first-length sources n))
 
 end-length : (m : Machine) → length (endLine m) ≤ lastLineSize
 end-length m = last-length (m .depth) (currentRank (m .controller) .0) (ltZ (marginAnswer m .margin) (pos 0)) (natAbs (marginAnswer m .margin))
 
 -- The whole print of a record that is played.
 pub played-print : (sources : ℕ) (hs vs answers₀ refusals₀ out : List ℕ) {p : Played} {answers refusals d₁ d₂ d₃ : List ℕ} {a b r : ℕ}
-    → printSize ≤ length out → length hs ≤ mostEvents → PlayedAll sources hs vs answers₀ refusals₀ p answers refusals
+    → printRoom (length hs) ≤ length out → PlayedAll sources hs vs answers₀ refusals₀ p answers refusals
     → Stands out 0 (firstLine sources (length hs)) a d₁ → Stands d₁ a (eventLines 0 hs answers refusals) b d₂ → b ≤ a + eventLineSize * length hs → Stands d₂ b (endLine (p .machine)) r d₃
     → (r ≡ length (playedLines sources hs vs)) × (d₃ ≡ filled (playedLines sources hs vs) out)
-played-print sources hs vs answers₀ refusals₀ out {p} {answers} {refusals} {d₁} {d₂} {d₃} {a} {b} {r} h few all first lines most end =
+played-print sources hs vs answers₀ refusals₀ out {p} {answers} {refusals} {d₁} {d₂} {d₃} {a} {b} {r} h all first lines most end =
     let m₀ = powerOnOf sources .machine in
     let whole = two out 0 (firstLine sources (length hs) ++ eventLines 0 hs answers refusals) (endLine (p .machine)) (two out 0 (firstLine sources (length hs)) (eventLines 0 hs answers refusals) first lines) end in
     let same : eventLines 0 hs answers refusals ≡ eventLines 0 hs (answersOf m₀ hs vs) (refusalsOf m₀ hs vs) =
@@ -95,11 +95,11 @@ played-print sources hs vs answers₀ refusals₀ out {p} {answers} {refusals} {
     let stands = stands-as out 0 text whole in
     let l : r ≡ length (playedLines sources hs vs) = omega (arith, stands .0) in
     let long : length (playedLines sources hs vs) ≤ length out =
-    omega (arith, l, h, few, first .0, most, end .0, first-length sources (length hs), end-length (p .machine)) in
+    omega (arith, l, h, first .0, most, end .0, first-length sources (length hs), end-length (p .machine)) in
     (l, stands .1 ∙ sets-filled out (playedLines sources hs vs) long)
 
 -- The whole print of a record that is refused.
-pub refused-print : (out : List ℕ) (refusal place : ℕ) {d : List ℕ} {r : ℕ} → printSize ≤ length out → Stands out 0 (refusedLine refusal place) r d
+pub refused-print : (out : List ℕ) (refusal place : ℕ) {d : List ℕ} {r : ℕ} → printRoom 0 ≤ length out → Stands out 0 (refusedLine refusal place) r d
     → (r ≡ length (refusedLine refusal place)) × (d ≡ filled (refusedLine refusal place) out)
 refused-print out refusal place h (e, f) =
     let long : length (refusedLine refusal place) ≤ length out = omega (arith, h, refused-length refusal place) in

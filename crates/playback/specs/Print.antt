@@ -1,9 +1,8 @@
 -- Document 01, "The player": the print of a record, whole.
-use Prim.Native.Nat.{ℕ, suc, _≤_, _<_}
+use Prim.Native.Nat.{ℕ, suc, _<_}
 use mathlib.Core.Bool.{Bool, cond}
-use mathlib.Core.Path.{_≡_}
 use mathlib.Core.List.{List, [], _∷_, _++_}
-use lib.ListN.{length, getD, take}
+use lib.ListN.{length, getD}
 use lib.Dec.{leb}
 use lib.IntN.{pos, natAbs}
 use lib.Signed.{ltZ}
@@ -18,8 +17,9 @@ use Rattle.handlers.specs.declared.Machine.{Machine}
 use Rattle.handlers.specs.Machines.{powerOnOf}
 use Rattle.handlers.specs.Calls.{marginAnswer}
 use Rattle.claims.specs.Play.{endOf, answersOf, refusalsOf}
-use Rattle.playback.specs.Text.{ascii, signed}
-use Rattle.playback.specs.Size.{printSize}
+use Rattle.digits.specs.Ascii.{ascii}
+use Rattle.playback.specs.Text.{signed}
+use Rattle.playback.specs.Size.{printRoom}
 
 -- The first line: `sources 4 events 10`.
 abbrev pub firstLine : ℕ → ℕ → List ℕ
@@ -71,13 +71,13 @@ printOf bytes =
 abbrev pub KnownKinds : List ℕ → Type 0
 KnownKinds heads = (j : ℕ) → j < length heads → kindOf (getD heads j 0) < length kinds
 
--- The buffer has n first bytes: what a caller that goes on with them needs to know.
-abbrev pub HasFirst : ℕ → List ℕ → Type 0
-HasFirst n buffer = (n ≤ length buffer) × (n ≡ length (take n buffer))
+-- The room that a record's print may need: n lines of events where the reader accepts it with n events, none where it is refused.
+unfoldable pub roomFor : List ℕ → ℕ
+roomFor bytes = printRoom (cond (allYes (boardVerdict bytes)) (length (headsOf bytes)) 0)
 
--- A buffer with less room than the print of any record may need stays as it was, and the answer is 0.
+-- A buffer with less room stays as it was, and the answer is 0.
 abbrev pub printedLength : List ℕ → ℕ → ℕ
-printedLength bytes space = cond (leb printSize space) (length (printOf bytes)) 0
+printedLength bytes space = cond (leb (roomFor bytes) space) (length (printOf bytes)) 0
 
 abbrev pub printedInto : List ℕ → List ℕ → List ℕ
-printedInto bytes buffer = cond (leb printSize (length buffer)) (filled (printOf bytes) buffer) buffer
+printedInto bytes buffer = cond (leb (roomFor bytes) (length buffer)) (filled (printOf bytes) buffer) buffer

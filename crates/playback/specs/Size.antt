@@ -1,4 +1,4 @@
--- Bytes that are enough for the print of any record: a first line, a line for each event and a last line, each as long as it can be.
+-- Bytes that are enough for a print: a first line, a line for each event and a last line, each as long as it can be.
 use Prim.Native.Nat.{ℕ, _+_, _*_}
 use Rattle.record.specs.Record.{mostEvents}
 
@@ -14,6 +14,10 @@ eventLineSize = 4 + 1 + 2 + 1 + 10 + 1 + 3 + 1
 abbrev pub lastLineSize : ℕ
 lastLineSize = 9 + 20 + 7 + 20 + 8 + 1 + 20 + 1
 
--- As many lines of events as a record has at most.
+-- Enough for the print of a record with so many events.
+abbrev pub printRoom : ℕ → ℕ
+printRoom events = firstLineSize + events * eventLineSize + lastLineSize
+
+-- Enough for the print of any record: as many events as a record has at most.
 abbrev pub printSize : ℕ
-printSize = firstLineSize + mostEvents * eventLineSize + lastLineSize
+printSize = printRoom mostEvents

@@ -1,16 +1,9 @@
--- The words of the print, as bytes.
+-- Numbers with a sign, as bytes.
 use Prim.Native.Nat.{ℕ}
-use Prim.Native.String.{String, [], _∷_}
-use Prim.Native.Char.{code}
 use mathlib.Core.Bool.{Bool, true, false}
-use mathlib.Core.List as list
 use mathlib.Core.List.{List, _++_}
+use Rattle.digits.specs.Ascii.{ascii}
 use Rattle.digits.specs.Digits.{decimal}
-
--- The bytes of a text in ASCII.
-unfoldable pub ascii : String → List ℕ
-ascii [] = list.[]
-ascii (c ∷ text) = list._∷_ (code c) (ascii text)
 
 -- The sign of a number: a minus below 0, else nothing.
 abbrev pub minus : Bool → List ℕ

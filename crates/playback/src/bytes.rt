@@ -4,9 +4,9 @@ ghost use mathlib.Core.Path.{_≡_};
 ghost use Prim.Native.Nat.{_+_, _*_, _≤_};
 ghost use lib.ListN.{length};
 ghost use lib.Seq.{sets};
-ghost use Rattle.buffers.specs.Filled.{filled};
-ghost use Rattle.playback.specs.Print.{KnownKinds, eventLines, endLine, playedLines, printOf, HasFirst, printedLength, printedInto};
-ghost use Rattle.playback.specs.Size.{eventLineSize, lastLineSize, printSize};
+ghost use Rattle.buffers.specs.Filled.{filled, HasFirst};
+ghost use Rattle.playback.specs.Print.{KnownKinds, eventLines, endLine, playedLines, printOf, printedLength, printedInto};
+ghost use Rattle.playback.specs.Size.{eventLineSize, lastLineSize, printRoom};
 ghost use Rattle.record.specs.Record.{mostEvents};
 use crate::lines::is_below;
 use crate::lines::put_event;
@@ -68,7 +68,8 @@ fn put_end(out: &mut [u8], at: usize, m: Machine) -> usize
 
 // Plays the events from power-on, and puts their print at the start.
 fn print_played(out: &mut [u8], sources: u32, heads: &[u32], values: &[u32]) -> usize
-    requires { ⌜ (length (now heads) ≤ mostEvents) × (length (now values) ≡ length (now heads)) × KnownKinds (now heads) × (printSize ≤ length (now out)) ⌝ }
+    requires { ⌜ (length (now heads) ≤ mostEvents) × (length (now values) ≡ length (now heads)) × KnownKinds (now heads)
+        × (printRoom (length (now heads)) ≤ length (now out)) ⌝ }
     ensures { λ r. ⌜ r ≡ length (playedLines sources (now (heads .entry)) (now (values .entry))) ⌝ }
     ensures { λ _. ⌜ now (out .exit) ≡ filled (playedLines sources (now (heads .entry)) (now (values .entry))) (now (out .entry)) ⌝ }
 {
@@ -88,49 +89,44 @@ fn print_played(out: &mut [u8], sources: u32, heads: &[u32], values: &[u32]) -> 
     put_end(out, b, m)
 }
 
-// Puts the print of a record at the start.
-fn print_to(record: &[u8], out: &mut [u8]) -> usize
-    requires { ⌜ printSize ≤ length (now out) ⌝ }
-    ensures { λ r. ⌜ r ≡ length (printOf (now («record» .entry))) ⌝ }
-    ensures { λ _. ⌜ now (out .exit) ≡ filled (printOf (now («record» .entry))) (now (out .entry)) ⌝ }
+// The bytes that the print of a record with so many events may need.
+fn print_room(events: usize) -> usize
+    requires { ⌜ events ≤ mostEvents ⌝ }
+    ensures { λ r. ⌜ r ≡ printRoom events ⌝ }
+{
+    FIRST_LINE_SIZE + events * EVENT_LINE_SIZE + LAST_LINE_SIZE
+}
+
+// Prints a record into a buffer of any length: the print fills its first bytes, and the answer is how many. With less room than the record's print may
+// need it stays as it was, nothing is played, and the answer is 0.
+pub fn print_into(record: &[u8], out: &mut [u8]) -> usize
+    ensures { λ r. ⌜ r ≡ printedLength (now («record» .entry)) (length (now (out .entry))) ⌝ }
+    ensures { λ _. ⌜ now (out .exit) ≡ printedInto (now («record» .entry)) (now (out .entry)) ⌝ }
 {
     let mut heads: [u32; MOST_EVENTS] = [0; MOST_EVENTS];
     let mut values: [u32; MOST_EVENTS] = [0; MOST_EVENTS];
     let got = record::read(record, &mut heads, &mut values);
     match got {
-        ReadAnswer::Done { events, sources } => print_played(
-            out,
-            sources,
-            &heads[..events],
-            &values[..events],
-        ),
-        ReadAnswer::Refused { refusal, place } => put_line(
-            out,
-            0,
-            b"refused ",
-            refusal as u64,
-            b" at ",
-            place as u64,
-        ),
+        ReadAnswer::Done { events, sources } => {
+            if out.len() < print_room(events) {
+                return 0;
+            }
+            print_played(out, sources, &heads[..events], &values[..events])
+        }
+        ReadAnswer::Refused { refusal, place } => {
+            if out.len() < print_room(0) {
+                return 0;
+            }
+            put_line(out, 0, b"refused ", refusal as u64, b" at ", place as u64)
+        }
     }
 }
 
-// Prints a record: the print fills the first bytes, and the answer is how many.
+// Prints a record into a buffer with room for the print of any record.
 pub fn print(record: &[u8], out: &mut [u8; PRINT_SIZE]) -> usize
     ensures { λ r. ⌜ r ≡ length (printOf (now («record» .entry))) ⌝ }
     ensures { λ _. ⌜ now (out .exit) ≡ filled (printOf (now («record» .entry))) (now (out .entry)) ⌝ }
     ensures { λ r. ⌜ HasFirst r (now (out .exit)) ⌝ }
 {
-    print_to(record, out)
-}
-
-// Prints a record into a buffer of any length. With less than PRINT_SIZE bytes it stays as it was, and the answer is 0.
-pub fn print_into(record: &[u8], out: &mut [u8]) -> usize
-    ensures { λ r. ⌜ r ≡ printedLength (now («record» .entry)) (length (now (out .entry))) ⌝ }
-    ensures { λ _. ⌜ now (out .exit) ≡ printedInto (now («record» .entry)) (now (out .entry)) ⌝ }
-{
-    if out.len() < PRINT_SIZE {
-        return 0;
-    }
-    print_to(record, out)
+    print_into(record, out)
 }

@@ -1,4 +1,4 @@
-// Plays a record: the record on standard input, the print on standard output.
+// Plays a record, from a file or from standard input: the print on standard output.
 
 // One byte more than the longest record, so that longer input is refused by the questions, as all of it would be.
 const INPUT_SIZE: usize = record::RECORD_SIZE + 1;
@@ -12,9 +12,11 @@ fn show(record: &[u8]) {
 
 fn main() {
     let mut record: [u8; INPUT_SIZE] = [0; INPUT_SIZE];
-    let input = console::read_all(&mut record);
+    let input = console::read_input(
+        &mut record,
+        b"usage: player [FILE]\nplays the record in FILE, or on standard input, and prints it\n",
+    );
     if input.failed {
-        console::say_cannot_read();
         return;
     }
     let length = input.length;

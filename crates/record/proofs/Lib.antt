@@ -1,7 +1,8 @@
--- Laws of records: words and bytes, the walk, the questions, the answers, what was read, input that is too long; the listing as a point.
+-- Laws of records: words and bytes, the walk, the questions, the places of the arrays, the answers, what was read, input that is too long; the listing as a point.
 pub mod Words
 pub mod Walk
 pub mod Questions
+pub mod Places
 pub mod Answers
 pub mod Parts
 pub mod TooLong

@@ -5,12 +5,14 @@ use Prim.Native.Nat.{ℕ, suc, _+_, _≤_, _<_}
 use native.Mathlib.Omega.{arith}
 use mathlib.Core.List.{List}
 use borrow.Author.Tests.{leb-true, eqb-true, le-leb, lt-leb, eq-eqb, ne-eqb, not-true, not-false}
+use lib.Dec.{lit<, leb, eqb}
 use lib.ListN.{length}
 use Rattle.event.specs.Event.{shapeOf}
 use Rattle.record.specs.declared.Limits.{Limits}
 use Rattle.record.specs.declared.Verdict.{Verdict}
 use Rattle.record.specs.Record.{countOf, sourcesOf, headsOf, valuesOf, wordsFrom, lengthOf, board, mostEvents}
-use Rattle.record.specs.Questions.{verdict, question, sourcesInRange, arraysHold, walk, readVerdict, writeVerdict, boardVerdict}
+use Rattle.record.specs.Questions.{verdict, question, sourcesInRange, countInRange, arraysHold, walk, readVerdict, writeVerdict, boardVerdict}
+use Rattle.record.proofs.Walk.{walk-first}
 
 -- Reading: the verdict of each no, given the answers before it as the code has them.
 module _ (limits : Limits) (bytes : List ℕ) (hp vp : ℕ) where
@@ -110,6 +112,33 @@ writable limits sources heads values space h =
       holds = leb-true _ _ (q5 .0);
       events = q5 .1;
     }
+
+-- A writing that question 6 or a later one refuses: the place is that of an event.
+later : (n k : ℕ) (answer : Bool) (next : Verdict) → k < 6 → (answer ≡ true → 6 ≤ next .refusal → next .place < n)
+    → 6 ≤ question k answer next .refusal → question k answer next .place < n
+later n k true next h f six = f refl six
+later n k false next h f six = absurd (omega arith)
+
+walk-place : (heads values : List ℕ) → length heads ≡ length values → 6 ≤ walk shapeOf heads values .refusal → walk shapeOf heads values .place < length heads
+walk-place heads values same six = walk-first shapeOf heads values same (λ z. omega arith) .inside
+
+module _ (limits : Limits) (sources : ℕ) (heads values : List ℕ) (space : ℕ) where
+  abbrev from-5 : Verdict
+  from-5 = question 5 (leb (lengthOf (length heads)) space) (walk shapeOf heads values)
+
+  abbrev from-4 : Verdict
+  from-4 = question 4 (eqb (length heads) (length values)) from-5
+
+  abbrev from-3 : Verdict
+  from-3 = question 3 (countInRange limits (length heads)) from-4
+
+  pub write-place : 6 ≤ writeVerdict limits sources heads values space .refusal → writeVerdict limits sources heads values space .place < length heads
+  unfolding writeVerdict
+  write-place =
+      later (length heads) 2 (sourcesInRange limits sources) from-3 (lit< tt) (λ two.
+      later (length heads) 3 (countInRange limits (length heads)) from-4 (lit< tt) (λ three.
+      later (length heads) 4 (eqb (length heads) (length values)) from-5 (lit< tt) (λ four.
+      later (length heads) 5 (leb (lengthOf (length heads)) space) (walk shapeOf heads values) (lit< tt) (λ five. walk-place heads values (eqb-true _ _ four)))))
 
 -- Arrays that have a place for each event of any record.
 pub board-verdict : (bytes : List ℕ) {a b : ℕ} → a ≡ mostEvents → b ≡ mostEvents → readVerdict board bytes a b ≡ boardVerdict bytes

@@ -1,9 +1,10 @@
--- Laws of texts: marks and lines, numbers, the rules in plain sentences, the loop over the lines, the record made,
--- the cut of a text that is too long; the listing as a point.
+-- Laws of texts: marks and lines, numbers, rows, the rules in plain sentences, the loops over the lines, the record made, a text that is too long; the listing as a point.
 pub mod Marks
 pub mod Digits
+pub mod Rows
 pub mod Sentences
 pub mod Turns
 pub mod Made
+pub mod Plain
 pub mod Cut
 pub mod Points

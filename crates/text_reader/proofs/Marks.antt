@@ -10,7 +10,7 @@ use borrow.Author.Tests.{eq-eqb, ne-eqb, leb-true, leb-false}
 use lib.Dec.{eqb, leb}
 use lib.ListN.{length, getD, take, drop, length-drop, drop-of-length-le}
 use lib.Seq.{drop-cons, drop-length, take-all}
-use Rattle.text_reader.specs.Lines.{lineFeed, before, after, onto, linesIn, linesOf}
+use Rattle.text_reader.specs.Lines.{lineFeed, before, after, onto, linesIn}
 
 -- The search for the mark: a turn, and its two ends.
 module _ (mark : ℕ) (text : List ℕ) (i : ℕ) where
@@ -96,9 +96,3 @@ lines-cons byte (next ∷ text) =
 pub lines-first : (text : List ℕ) → 0 < length text → linesIn text ≡ before lineFeed text ∷ linesIn (after lineFeed text)
 lines-first [] h = absurd (omega arith)
 lines-first (byte ∷ text) h = lines-cons byte text
-
--- Every text has a first line.
-pub lines-all : (text : List ℕ) → linesOf text ≡ before lineFeed text ∷ linesIn (after lineFeed text)
-unfolding linesOf linesIn before after
-lines-all [] = refl
-lines-all (byte ∷ text) = lines-cons byte text

@@ -1,4 +1,4 @@
--- The listing of document 01 as text, what it says, and texts that are refused, computed by the rules.
+-- The listing of document 01 as text, what it says, and texts that are dressed up or refused, computed by the rules.
 use mathlib.Core.Path.{_≡_, refl}
 use Prim.Native.Nat.{ℕ}
 use mathlib.Core.List.{List, [], _∷_}
@@ -7,102 +7,124 @@ use Rattle.event.specs.Listing.{listingSources, listingHeads, listingValues}
 use Rattle.record.specs.Record.{recordSize}
 use Rattle.record.specs.Questions.{writeVerdict, walkFrom}
 use Rattle.record.specs.Answers.{doneWith, refusedAt}
-use Rattle.text_reader.specs.Lines.{before, after, linesIn, linesOf}
-use Rattle.text_reader.specs.Numbers.{allDigits}
+use Rattle.digits.specs.Ascii.{ascii}
 use Rattle.digits.specs.Digits.{digitOf, numberAfter}
-use Rattle.text_reader.specs.Reading.{firstBadFrom, sourcesOfText, headsOfText, valuesOfText}
-use Rattle.text_reader.specs.Answers.{goodLines, badLine, toRecordAnswer}
+use Rattle.text_reader.specs.Lines.{before, after, linesIn}
+use Rattle.text_reader.specs.Rows.{withoutReturn, saidIn, withoutLead, keptOf, trimmed, saysAny, rowsFrom}
+use Rattle.text_reader.specs.Numbers.{allDigits}
+use Rattle.text_reader.specs.Reading.{notSources, notEvent, eventsFault, textFault, sourcesOfText, headsOfText, valuesOfText}
+use Rattle.text_reader.specs.Answers.{LinesAnswer, faulty, written, toRecordAnswer}
 
--- N 4 and ten events, a line of the text to a line.
+-- To unfold this is to unfold every rule of a text.
+rules : Unit {0}
+unfolding textFault eventsFault rowsFrom saysAny saidIn withoutReturn withoutLead keptOf trimmed before after linesIn allDigits numberAfter digitOf writeVerdict walkFrom shapeOf ascii
+rules = tt
+
+-- N 4 and ten events.
 abbrev pub listing : List ℕ
-listing =
-    52 ∷ 10
-    ∷ 48 ∷ 48 ∷ 48 ∷ 50 ∷ 50 ∷ 48 ∷ 48 ∷ 56 ∷ 58 ∷ 49 ∷ 10
-    ∷ 48 ∷ 48 ∷ 48 ∷ 50 ∷ 48 ∷ 48 ∷ 48 ∷ 56 ∷ 58 ∷ 53 ∷ 10
-    ∷ 48 ∷ 48 ∷ 48 ∷ 48 ∷ 48 ∷ 48 ∷ 48 ∷ 48 ∷ 58 ∷ 52 ∷ 10
-    ∷ 48 ∷ 48 ∷ 48 ∷ 53 ∷ 48 ∷ 48 ∷ 48 ∷ 48 ∷ 58 ∷ 48 ∷ 10
-    ∷ 48 ∷ 48 ∷ 48 ∷ 57 ∷ 48 ∷ 48 ∷ 48 ∷ 48 ∷ 58 ∷ 49 ∷ 10
-    ∷ 48 ∷ 48 ∷ 48 ∷ 53 ∷ 48 ∷ 48 ∷ 48 ∷ 48 ∷ 58 ∷ 48 ∷ 10
-    ∷ 48 ∷ 48 ∷ 48 ∷ 54 ∷ 48 ∷ 48 ∷ 48 ∷ 48 ∷ 58 ∷ 48 ∷ 10
-    ∷ 48 ∷ 48 ∷ 48 ∷ 56 ∷ 48 ∷ 48 ∷ 48 ∷ 48 ∷ 58 ∷ 48 ∷ 10
-    ∷ 48 ∷ 48 ∷ 48 ∷ 57 ∷ 48 ∷ 48 ∷ 48 ∷ 48 ∷ 58 ∷ 48 ∷ 10
-    ∷ 48 ∷ 48 ∷ 48 ∷ 56 ∷ 48 ∷ 48 ∷ 48 ∷ 48 ∷ 58 ∷ 48 ∷ 10
-    ∷ []
+listing = ascii "4\n00022008:1\n00020008:5\n00000000:4\n00050000:0\n00090000:1\n00050000:0\n00060000:0\n00080000:0\n00090000:0\n00080000:0\n"
 
 -- What it says.
 pub listing-sources : sourcesOfText listing ≡ listingSources
-unfolding linesOf linesIn numberAfter digitOf
+unfolding rules
 listing-sources = refl
 
 pub listing-heads : headsOfText listing ≡ listingHeads
-unfolding before linesOf linesIn numberAfter digitOf
+unfolding rules
 listing-heads = refl
 
 pub listing-values : valuesOfText listing ≡ listingValues
-unfolding after linesOf linesIn numberAfter digitOf
+unfolding rules
 listing-values = refl
 
--- The record of 88 bytes that is made of it.
-pub listing-made : toRecordAnswer listing recordSize ≡ goodLines (doneWith (88 ∷ []))
-unfolding firstBadFrom before after linesOf linesIn allDigits numberAfter digitOf writeVerdict walkFrom shapeOf
+-- What is answered to a text.
+abbrev answer : List ℕ → LinesAnswer
+answer text = toRecordAnswer text recordSize
+
+-- A record of so many bytes.
+abbrev made : ℕ → LinesAnswer
+made bytes = written (doneWith (bytes ∷ [])) 0
+
+pub listing-made : answer listing ≡ made 88
+unfolding rules
 listing-made = refl
 
--- The empty text has one line, which is empty.
-pub no-text : toRecordAnswer ([]) recordSize ≡ badLine 1
-unfolding firstBadFrom before after linesOf linesIn allDigits numberAfter digitOf writeVerdict walkFrom shapeOf
-no-text = refl
-
--- Four digits for N.
-pub four-digits : toRecordAnswer (48 ∷ 48 ∷ 48 ∷ 52 ∷ 10 ∷ []) recordSize ≡ badLine 1
-unfolding firstBadFrom before after linesOf linesIn allDigits numberAfter digitOf writeVerdict walkFrom shapeOf
-four-digits = refl
-
 -- N alone, with no line feed: a record of no event.
-pub no-events : toRecordAnswer (52 ∷ []) recordSize ≡ goodLines (doneWith (8 ∷ []))
-unfolding firstBadFrom before after linesOf linesIn allDigits numberAfter digitOf writeVerdict walkFrom shapeOf
+pub no-events : answer (ascii "4") ≡ made 8
+unfolding rules
 no-events = refl
 
--- A second line that is empty.
-pub empty-line : toRecordAnswer (52 ∷ 10 ∷ 10 ∷ []) recordSize ≡ badLine 2
-unfolding firstBadFrom before after linesOf linesIn allDigits numberAfter digitOf writeVerdict walkFrom shapeOf
-empty-line = refl
-
--- A head of nine digits; of two bad lines the first.
-pub nine-digits : toRecordAnswer (52 ∷ 10 ∷ 48 ∷ 48 ∷ 48 ∷ 48 ∷ 53 ∷ 48 ∷ 48 ∷ 48 ∷ 48 ∷ 58 ∷ 48 ∷ 10 ∷ 122 ∷ 10 ∷ []) recordSize ≡ badLine 2
-unfolding firstBadFrom before after linesOf linesIn allDigits numberAfter digitOf writeVerdict walkFrom shapeOf
-nine-digits = refl
-
--- No colon.
-pub no-colon : toRecordAnswer (52 ∷ 10 ∷ 53 ∷ 48 ∷ 48 ∷ 48 ∷ 48 ∷ 58 ∷ 48 ∷ 10 ∷ 53 ∷ 48 ∷ 48 ∷ 48 ∷ 48 ∷ 10 ∷ []) recordSize ≡ badLine 3
-unfolding firstBadFrom before after linesOf linesIn allDigits numberAfter digitOf writeVerdict walkFrom shapeOf
-no-colon = refl
-
--- Two colons.
-pub two-colons : toRecordAnswer (52 ∷ 10 ∷ 53 ∷ 48 ∷ 48 ∷ 48 ∷ 48 ∷ 58 ∷ 48 ∷ 58 ∷ 48 ∷ 10 ∷ []) recordSize ≡ badLine 2
-unfolding firstBadFrom before after linesOf linesIn allDigits numberAfter digitOf writeVerdict walkFrom shapeOf
-two-colons = refl
-
--- A blank before the value.
-pub a-blank : toRecordAnswer (52 ∷ 10 ∷ 53 ∷ 48 ∷ 48 ∷ 48 ∷ 48 ∷ 58 ∷ 32 ∷ 48 ∷ 10 ∷ []) recordSize ≡ badLine 2
-unfolding firstBadFrom before after linesOf linesIn allDigits numberAfter digitOf writeVerdict walkFrom shapeOf
-a-blank = refl
-
 -- Digits in upper case, and a last line without its line feed.
-pub upper-case : toRecordAnswer (52 ∷ 10 ∷ 48 ∷ 48 ∷ 48 ∷ 50 ∷ 70 ∷ 70 ∷ 70 ∷ 67 ∷ 58 ∷ 65 ∷ 66 ∷ 67 ∷ 100 ∷ 101 ∷ 102 ∷ 48 ∷ 57 ∷ []) recordSize ≡ goodLines (doneWith (16 ∷ []))
-unfolding firstBadFrom before after linesOf linesIn allDigits numberAfter digitOf writeVerdict walkFrom shapeOf
+pub upper-case : answer (ascii "4\n0002FFFC:ABCdef09") ≡ made 16
+unfolding rules
 upper-case = refl
 
--- Every line is good, and N is 1: question 2.
-pub one-source : toRecordAnswer (49 ∷ 10 ∷ 53 ∷ 48 ∷ 48 ∷ 48 ∷ 48 ∷ 58 ∷ 48 ∷ 10 ∷ []) recordSize ≡ goodLines (refusedAt 2 0)
-unfolding firstBadFrom before after linesOf linesIn allDigits numberAfter digitOf writeVerdict walkFrom shapeOf
+-- Comments, blank lines, blanks and tabs around the parts, and a carriage return at the end of each line.
+pub dressed-up : answer (ascii "# a bench\r\n\t4 \r\n\r\n  00050000 :\t0\t# take\r\n#") ≡ made 16
+unfolding rules
+dressed-up = refl
+
+-- No line says anything: N is missed in the line after the last.
+pub no-text : answer (ascii "") ≡ faulty (notSources 1)
+unfolding rules
+no-text = refl
+
+pub no-row : answer (ascii "# nothing\n \t\n") ≡ faulty (notSources 3)
+unfolding rules
+no-row = refl
+
+-- Four digits for N; two numbers in its line.
+pub four-digits : answer (ascii "\n0004\n") ≡ faulty (notSources 2)
+unfolding rules
+four-digits = refl
+
+pub two-numbers : answer (ascii "4 4\n") ≡ faulty (notSources 1)
+unfolding rules
+two-numbers = refl
+
+-- A second carriage return, and one that is not at the end of its line.
+pub two-returns : answer (ascii "4\r\r\n") ≡ faulty (notSources 1)
+unfolding rules
+two-returns = refl
+
+pub return-inside : answer (ascii "4\n50000\r:0\n") ≡ faulty (notEvent 2)
+unfolding rules
+return-inside = refl
+
+-- A head of nine digits; of two bad lines the first.
+pub nine-digits : answer (ascii "4\n000050000:0\nz\n") ≡ faulty (notEvent 2)
+unfolding rules
+nine-digits = refl
+
+-- No colon, two colons, and a blank within a number.
+pub no-colon : answer (ascii "4\n50000:0\n50000\n") ≡ faulty (notEvent 3)
+unfolding rules
+no-colon = refl
+
+pub two-colons : answer (ascii "4\n50000:0:0\n") ≡ faulty (notEvent 2)
+unfolding rules
+two-colons = refl
+
+pub blank-inside : answer (ascii "4\n5 0000:0\n") ≡ faulty (notEvent 2)
+unfolding rules
+blank-inside = refl
+
+-- A comment cuts the value off.
+pub cut-off : answer (ascii "4\n50000:#0\n") ≡ faulty (notEvent 2)
+unfolding rules
+cut-off = refl
+
+-- N is 1, in line 2: question 2.
+pub one-source : answer (ascii "\n1\n50000:0\n") ≡ written (refusedAt 2 0) 2
+unfolding rules
 one-source = refl
 
--- The second event is of no kind: question 6 at place 1.
-pub no-kind : toRecordAnswer (52 ∷ 10 ∷ 53 ∷ 48 ∷ 48 ∷ 48 ∷ 48 ∷ 58 ∷ 48 ∷ 10 ∷ 65 ∷ 48 ∷ 48 ∷ 48 ∷ 48 ∷ 58 ∷ 48 ∷ 10 ∷ []) recordSize ≡ goodLines (refusedAt 6 1)
-unfolding firstBadFrom before after linesOf linesIn allDigits numberAfter digitOf writeVerdict walkFrom shapeOf
+-- The second event is of no kind, in line 5: question 6 at place 1.
+pub no-kind : answer (ascii "4\n50000:0\n\n# no kind\na0000:0\n") ≡ written (refusedAt 6 1) 5
+unfolding rules
 no-kind = refl
 
 -- A take with a value: question 7 at place 0.
-pub unused : toRecordAnswer (52 ∷ 10 ∷ 53 ∷ 48 ∷ 48 ∷ 48 ∷ 48 ∷ 58 ∷ 49 ∷ 10 ∷ []) recordSize ≡ goodLines (refusedAt 7 0)
-unfolding firstBadFrom before after linesOf linesIn allDigits numberAfter digitOf writeVerdict walkFrom shapeOf
+pub unused : answer (ascii "4\n50000:1\n") ≡ written (refusedAt 7 0) 2
+unfolding rules
 unused = refl

@@ -1,16 +1,19 @@
--- The rules in plain sentences: the parts of a line, the lines of a text, and the first bad line.
+-- The rules in plain sentences: the parts of a line, the lines of a text, blanks, rows, and the first fault.
 use mathlib.Core.Path.{_≡_, refl, sym, ap, _∙_}
-use mathlib.Core.Bool.{Bool, true, false, cond}
+use mathlib.Core.Bool.{Bool, true, false, cond, true≢false}
 use mathlib.Core.Logic.{_⊎_, inl, inr}
-use Prim.Native.Nat.{ℕ, zero, suc, _+_, _<_}
-use native.Mathlib.Nat.{add-zero, add-suc, suc-add, suc-ne-zero}
+use Prim.Native.Nat.{ℕ, zero, suc, _+_, _-_, _≤_, _<_}
+use native.Mathlib.Nat.{add-zero, add-suc, suc-add}
 use native.Mathlib.Omega.{arith}
 use mathlib.Core.List.{List, [], _∷_, _++_}
-use borrow.Author.Tests.{eq-eqb, ne-eqb, eqb-true, eqb-false}
-use lib.Dec.{eqb}
-use lib.ListN.{length, getD, length-append}
-use Rattle.text_reader.specs.Lines.{lineFeed, before, after, onto, linesIn, linesOf}
-use Rattle.text_reader.specs.Reading.{isGood, firstBadFrom, firstBad}
+use borrow.Author.Tests.{eq-eqb, ne-eqb, eqb-true, eqb-false, leb-true, leb-false}
+use lib.Dec.{eqb, leb}
+use lib.ListN.{length, getD, drop, length-append}
+use Rattle.record.specs.Record.{mostEvents}
+use Rattle.text_reader.specs.declared.Fault.{Fault}
+use Rattle.text_reader.specs.Lines.{lineFeed, before, after, onto, linesIn}
+use Rattle.text_reader.specs.Rows.{saidIn, isBlank, withoutLead, keptOf, saysAny, Row, rowsFrom}
+use Rattle.text_reader.specs.Reading.{isEvent, notEvent, tooMany, eventsFault}
 
 -- No byte of the list is the mark.
 pub data Free (mark : ℕ) : List ℕ → Type 0 where
@@ -73,15 +76,10 @@ joins-step : (here : Bool) (byte : ℕ) (text : List ℕ) (lines : List (List �
 joins-step true byte text lines e j = rw (eqb-true byte lineFeed e) (feed-joins lines text j)
 joins-step false byte text lines e j = onto-joins byte lines text j
 
-lines-in-joined : (text : List ℕ) → Joins text (linesIn text)
+pub lines-joined : (text : List ℕ) → Joins text (linesIn text)
 unfolding linesIn joined
-lines-in-joined [] = inl refl
-lines-in-joined (byte ∷ text) = joins-step (eqb byte lineFeed) byte text (linesIn text) refl (lines-in-joined text)
-
-pub lines-joined : (text : List ℕ) → Joins text (linesOf text)
-unfolding linesOf joined
-lines-joined [] = inr refl
-lines-joined (byte ∷ text) = lines-in-joined (byte ∷ text)
+lines-joined [] = inl refl
+lines-joined (byte ∷ text) = joins-step (eqb byte lineFeed) byte text (linesIn text) refl (lines-joined text)
 
 -- No line has a line feed in it.
 onto-free : (byte : ℕ) (lines : List (List ℕ)) → (byte ≡ lineFeed → ⊥) → ((i : ℕ) → Free lineFeed (getD lines i [])) → (i : ℕ) → Free lineFeed (getD (onto byte lines) i [])
@@ -99,81 +97,173 @@ lines-step : (here : Bool) (byte : ℕ) (lines : List (List ℕ)) → eqb byte l
 lines-step true byte lines e f = feed-free lines f
 lines-step false byte lines e f = onto-free byte lines (eqb-false byte lineFeed e) f
 
-lines-in-free : (text : List ℕ) (i : ℕ) → Free lineFeed (getD (linesIn text) i [])
+pub lines-free : (text : List ℕ) (i : ℕ) → Free lineFeed (getD (linesIn text) i [])
 unfolding linesIn
-lines-in-free [] i = empty
-lines-in-free (byte ∷ text) i = lines-step (eqb byte lineFeed) byte (linesIn text) refl (lines-in-free text) i
+lines-free [] i = empty
+lines-free (byte ∷ text) i = lines-step (eqb byte lineFeed) byte (linesIn text) refl (lines-free text) i
 
-pub lines-free : (text : List ℕ) (i : ℕ) → Free lineFeed (getD (linesOf text) i [])
-unfolding linesOf
-lines-free [] = feed-free [] (λ i. empty)
-lines-free (byte ∷ text) = lines-in-free (byte ∷ text)
+-- Without the blanks at its start, a text begins at the first byte that is none.
+pub record Led (text rest : List ℕ) : Type 0 where
+  pub count : ℕ
+  pub few : count ≤ length text
+  pub from-there : rest ≡ drop count text
+  pub blanks : (j : ℕ) → j < count → isBlank (getD text j 0) ≡ true
+  pub first : count < length text → isBlank (getD text count 0) ≡ false
 
--- Line k and those after it: where the first bad one is.
-record BadFrom (k : ℕ) (lines : List (List ℕ)) (number : ℕ) : Type 0 where
+led-step : (blank : Bool) (byte : ℕ) (text rest : List ℕ) → isBlank byte ≡ blank → Led text rest → Led (byte ∷ text) (cond blank rest (byte ∷ text))
+led-step true byte text rest e led =
+    record {
+      count = suc (led .count);
+      few = omega (arith, led .few);
+      from-there = led .from-there;
+      blanks = before-it;
+      first = λ h. led .first (omega arith);
+    }
+  where
+    before-it : (j : ℕ) → j < suc (led .count) → isBlank (getD (byte ∷ text) j 0) ≡ true
+    before-it zero h = e
+    before-it (suc j) h = led .blanks j (omega arith)
+led-step false byte text rest e led = record { count = 0; few = omega arith; from-there = refl; blanks = λ j h. absurd (omega arith); first = λ h. e }
+
+pub lead-is : (text : List ℕ) → Led text (withoutLead text)
+unfolding withoutLead
+lead-is [] = record { count = 0; few = omega arith; from-there = refl; blanks = λ j h. absurd (omega arith); first = λ h. absurd (omega arith) }
+lead-is (byte ∷ text) = led-step (isBlank byte) byte text (withoutLead text) refl (lead-is text)
+
+-- Of n bytes those up to the last that is no blank are left.
+pub record Kept (text : List ℕ) (n k : ℕ) : Type 0 where
+  pub few : k ≤ n
+  pub blanks : (j : ℕ) → k ≤ j → j < n → isBlank (getD text j 0) ≡ true
+  pub last : 0 < k → isBlank (getD text (k - 1) 0) ≡ false
+
+kept-step : (blank : Bool) (text : List ℕ) (n k : ℕ) → isBlank (getD text n 0) ≡ blank → Kept text n k → Kept text (suc n) (cond blank k (suc n))
+kept-step true text n k e kept = record { few = omega (arith, kept .few); blanks = after-it; last = kept .last }
+  where
+    after-it : (j : ℕ) → k ≤ j → j < suc n → isBlank (getD text j 0) ≡ true
+    after-it j l h = by-case (eqb j n) refl
+      where
+        by-case : (here : Bool) → eqb j n ≡ here → isBlank (getD text j 0) ≡ true
+        by-case true z = rw (eqb-true j n z) e
+        by-case false z = let less : j < n = omega (arith, eqb-false j n z) in kept .blanks j l less
+kept-step false text n k e kept =
+    let one : suc n - 1 ≡ n = omega arith in
+    record { few = omega arith; blanks = λ j l h. absurd (omega arith); last = λ h. rw one e }
+
+pub kept-is : (text : List ℕ) (n : ℕ) → Kept text n (keptOf text n)
+unfolding keptOf
+kept-is text zero = record { few = omega arith; blanks = λ j l h. absurd (omega arith); last = λ h. absurd (omega arith) }
+kept-is text (suc n) = kept-step (isBlank (getD text n 0)) text n (keptOf text n) refl (kept-is text n)
+
+-- A row of lines of which the first has number k: the line whose number it has says something, and that is what the row says.
+abbrev pub noRow : Row
+noRow = record { number = 0; said = [] }
+
+pub record RowIs (k : ℕ) (lines : List (List ℕ)) (row : Row) : Type 0 where
   pub index : ℕ
-  pub place : number ≡ k + index
   pub inside : index < length lines
-  pub bad : isGood (k + index) (getD lines index []) ≡ false
-  pub earlier : (j : ℕ) → j < index → isGood (k + j) (getD lines j []) ≡ true
+  pub numbered : row .number ≡ k + index
+  pub says : saysAny (getD lines index []) ≡ true
+  pub said-there : row .said ≡ saidIn (getD lines index [])
 
-earlier-step : (k : ℕ) (line : List ℕ) (lines : List (List ℕ)) (i : ℕ) → isGood k line ≡ true → ((j : ℕ) → j < i → isGood (suc k + j) (getD lines j []) ≡ true)
-    → (j : ℕ) → j < suc i → isGood (k + j) (getD (line ∷ lines) j []) ≡ true
-earlier-step k line lines i e f zero h = rw (add-zero k) e
-earlier-step k line lines i e f (suc j) h = let h′ : j < i = omega arith in rw (add-suc k j, ← suc-add k j) (f j h′)
-
-bad-step : (good : Bool) (k : ℕ) (line : List ℕ) (lines : List (List ℕ)) (rest : ℕ) → isGood k line ≡ good
-    → (cond good rest k ≡ 0 → ⊥) → ((rest ≡ 0 → ⊥) → BadFrom (suc k) lines rest) → BadFrom k (line ∷ lines) (cond good rest k)
-bad-step true k line lines rest e h next =
-    let f = next h in
+later-line : {k : ℕ} {line : List ℕ} {lines : List (List ℕ)} {row : Row} → RowIs (suc k) lines row → RowIs k (line ∷ lines) row
+later-line {k} r =
     record {
-      index = suc (f .index);
-      place = f .place ∙ suc-add k (f .index) ∙ sym (add-suc k (f .index));
-      inside = omega (arith, f .inside);
-      bad = rw (add-suc k (f .index), ← suc-add k (f .index)) (f .bad);
-      earlier = earlier-step k line lines (f .index) e (f .earlier);
-    }
-bad-step false k line lines rest e h next =
-    record {
-      index = 0;
-      place = sym (add-zero k);
-      inside = omega arith;
-      bad = rw (add-zero k) e;
-      earlier = λ j l. absurd (omega arith);
+      index = suc (r .index);
+      inside = omega (arith, r .inside);
+      numbered = r .numbered ∙ suc-add k (r .index) ∙ sym (add-suc k (r .index));
+      says = r .says;
+      said-there = r .said-there;
     }
 
-bad-from : (k : ℕ) (lines : List (List ℕ)) → (firstBadFrom k lines ≡ 0 → ⊥) → BadFrom k lines (firstBadFrom k lines)
-unfolding firstBadFrom
-bad-from k [] h = absurd (h refl)
-bad-from k (line ∷ lines) h = bad-step (isGood k line) k line lines (firstBadFrom (suc k) lines) refl h (bad-from (suc k) lines)
+row-step : (any : Bool) (k : ℕ) (line : List ℕ) (lines : List (List ℕ)) (rows : List Row) → saysAny line ≡ any
+    → ((i : ℕ) → i < length rows → RowIs (suc k) lines (getD rows i noRow))
+    → (i : ℕ) → i < length (cond any (record { number = k; said = saidIn line } ∷ rows) rows)
+    → RowIs k (line ∷ lines) (getD (cond any (record { number = k; said = saidIn line } ∷ rows) rows) i noRow)
+row-step true k line lines rows e f zero h = record { index = 0; inside = omega arith; numbered = sym (add-zero k); says = e; said-there = refl }
+row-step true k line lines rows e f (suc i) h = let h′ : i < length rows = omega arith in later-line (f i h′)
+row-step false k line lines rows e f i h = later-line (f i h)
 
--- A text with a bad line: the number is that of a line that is bad, and every line before it is good. Lines are numbered from 1.
-pub record IsFirstBad (text : List ℕ) (number : ℕ) : Type 0 where
+pub row-is : (k : ℕ) (lines : List (List ℕ)) (i : ℕ) → i < length (rowsFrom k lines) → RowIs k lines (getD (rowsFrom k lines) i noRow)
+unfolding rowsFrom
+row-is k [] i h = absurd (omega arith)
+row-is k (line ∷ lines) i h = row-step (saysAny line) k line lines (rowsFrom (suc k) lines) refl (row-is (suc k) lines) i h
+
+-- Every line that says something is a row, and the rows stand in the order of their lines.
+pub record LineIs (rows : List Row) (number : ℕ) : Type 0 where
   pub index : ℕ
-  pub from-1 : number ≡ 1 + index
-  pub inside : index < length (linesOf text)
-  pub bad : isGood (1 + index) (getD (linesOf text) index []) ≡ false
-  pub earlier : (j : ℕ) → j < index → isGood (1 + j) (getD (linesOf text) j []) ≡ true
+  pub inside : index < length rows
+  pub has : getD rows index noRow .number ≡ number
 
-pub first-bad-is : (text : List ℕ) → (firstBad text ≡ 0 → ⊥) → IsFirstBad text (firstBad text)
-first-bad-is text h =
-    let f = bad-from 1 (linesOf text) h in
-    record { index = f .index; from-1 = f .place; inside = f .inside; bad = f .bad; earlier = f .earlier }
+later-row : (any : Bool) (row : Row) {rows : List Row} {number : ℕ} → LineIs rows number → LineIs (cond any (row ∷ rows) rows) number
+later-row true row l = record { index = suc (l .index); inside = omega (arith, l .inside); has = l .has }
+later-row false row l = l
 
--- A text with none: every line is good.
-good-step : (good : Bool) (k rest : ℕ) → (k ≡ 0 → ⊥) → cond good rest k ≡ 0 → (good ≡ true) × (rest ≡ 0)
-good-step true k rest h e = (refl, e)
-good-step false k rest h e = absurd (h e)
+first-row : (any : Bool) (k : ℕ) (line : List ℕ) (rows : List Row) → any ≡ true → LineIs (cond any (record { number = k; said = saidIn line } ∷ rows) rows) k
+first-row true k line rows e = record { index = 0; inside = omega arith; has = refl }
+first-row false k line rows e = absurd (true≢false (sym e))
 
-good-from : (k : ℕ) (lines : List (List ℕ)) → (k ≡ 0 → ⊥) → firstBadFrom k lines ≡ 0 → (j : ℕ) → j < length lines → isGood (k + j) (getD lines j []) ≡ true
-unfolding firstBadFrom
-good-from k [] h e j l = absurd (omega arith)
-good-from k (line ∷ lines) h e j l =
-    let s = good-step (isGood k line) k (firstBadFrom (suc k) lines) h e in
-    earlier-step k line lines (length lines) (s .0) (good-from (suc k) lines (suc-ne-zero k) (s .1)) j l
+pub line-is-row : (k : ℕ) (lines : List (List ℕ)) (j : ℕ) → j < length lines → saysAny (getD lines j []) ≡ true → LineIs (rowsFrom k lines) (k + j)
+unfolding rowsFrom
+line-is-row k [] j h e = absurd (omega arith)
+line-is-row k (line ∷ lines) zero h e = rw (add-zero k) (first-row (saysAny line) k line (rowsFrom (suc k) lines) e)
+line-is-row k (line ∷ lines) (suc j) h e =
+    let h′ : j < length lines = omega arith in
+    rw (add-suc k j, ← suc-add k j) (later-row (saysAny line) (record { number = k; said = saidIn line }) (line-is-row (suc k) lines j h′ e))
 
-pub all-good : (text : List ℕ) → firstBad text ≡ 0 → (j : ℕ) → j < length (linesOf text) → isGood (1 + j) (getD (linesOf text) j []) ≡ true
-all-good text e = good-from 1 (linesOf text) (λ z. omega arith) e
+rise-step : (any : Bool) (k : ℕ) (line : List ℕ) (lines : List (List ℕ)) → saysAny line ≡ any → ((i j : ℕ) → i < j → j < length (rowsFrom (suc k) lines) → getD (rowsFrom (suc k) lines) i noRow .number < getD (rowsFrom (suc k) lines) j noRow .number)
+    → (i j : ℕ) → i < j → j < length (cond any (record { number = k; said = saidIn line } ∷ rowsFrom (suc k) lines) (rowsFrom (suc k) lines))
+    → getD (cond any (record { number = k; said = saidIn line } ∷ rowsFrom (suc k) lines) (rowsFrom (suc k) lines)) i noRow .number
+    < getD (cond any (record { number = k; said = saidIn line } ∷ rowsFrom (suc k) lines) (rowsFrom (suc k) lines)) j noRow .number
+rise-step true k line lines e f i zero l h = absurd (omega arith)
+rise-step true k line lines e f zero (suc j) l h = let h′ : j < length (rowsFrom (suc k) lines) = omega arith in omega (arith, row-is (suc k) lines j h′ .numbered)
+rise-step true k line lines e f (suc i) (suc j) l h = f i j (omega arith) (omega arith)
+rise-step false k line lines e f i j l h = f i j l h
+
+pub rows-rise : (k : ℕ) (lines : List (List ℕ)) (i j : ℕ) → i < j → j < length (rowsFrom k lines) → getD (rowsFrom k lines) i noRow .number < getD (rowsFrom k lines) j noRow .number
+unfolding rowsFrom
+rows-rise k [] i j l h = absurd (omega arith)
+rows-rise k (line ∷ lines) i j l h = rise-step (saysAny line) k line lines refl (rows-rise (suc k) lines) i j l h
+
+-- Row i of events, of which k stand before the first: it is good where it is an event, one of the first 4,000.
+abbrev IsGood : ℕ → List Row → ℕ → Type 0
+IsGood k rows i = (isEvent (getD rows i noRow .said) ≡ true) × (k + i < mostEvents)
+
+-- The first fault: every row before it is good, and it is the line of a row that is not, with the reason.
+pub record FirstFault (k : ℕ) (rows : List Row) (f : Fault) : Type 0 where
+  pub index : ℕ
+  pub inside : index < length rows
+  pub earlier : (j : ℕ) → j < index → IsGood k rows j
+  pub there : ((f ≡ tooMany (getD rows index noRow .number)) × (mostEvents ≤ k + index))
+      ⊎ ((f ≡ notEvent (getD rows index noRow .number)) × (k + index < mostEvents) × (isEvent (getD rows index noRow .said) ≡ false))
+
+-- A list of rows has a first fault, or all of them are good.
+abbrev Found : ℕ → List Row → Fault → Type 0
+Found k rows f = ((f .why ≡ 0 → ⊥) × FirstFault k rows f) ⊎ ((f .why ≡ 0) × ((j : ℕ) → j < length rows → IsGood k rows j))
+
+good-rows : (k n : ℕ) (row : Row) (rows : List Row) → isEvent (row .said) ≡ true → k < mostEvents → ((j : ℕ) → j < n → IsGood (suc k) rows j)
+    → (j : ℕ) → j < suc n → IsGood k (row ∷ rows) j
+good-rows k n row rows e few f zero h = (e, omega arith)
+good-rows k n row rows e few f (suc j) h = let h′ : j < n = omega arith in (f j h′ .0, omega (arith, f j h′ .1))
+
+found-later : (k : ℕ) (row : Row) (rows : List Row) (f : Fault) → isEvent (row .said) ≡ true → k < mostEvents → Found (suc k) rows f → Found k (row ∷ rows) f
+found-later k row rows f e few (inr g) = inr (g .0, good-rows k (length rows) row rows e few (g .1))
+found-later k row rows f e few (inl b) =
+    let at = b .1 in
+    let on : suc k + at .index ≡ k + suc (at .index) = omega arith in
+    inl (b .0, record { index = suc (at .index); inside = omega (arith, at .inside); earlier = good-rows k (at .index) row rows e few (at .earlier); there = rw on at (at .there) })
+
+fault-step : (full event : Bool) (k : ℕ) (row : Row) (rows : List Row) (f : Fault) → leb mostEvents k ≡ full → isEvent (row .said) ≡ event → Found (suc k) rows f
+    → Found k (row ∷ rows) (cond full (tooMany (row .number)) (cond event f (notEvent (row .number))))
+fault-step true event k row rows f e v next =
+    inl ((λ z. omega arith), record { index = 0; inside = omega arith; earlier = λ j h. absurd (omega arith); there = inl (refl, omega (arith, leb-true mostEvents k e)) })
+fault-step false true k row rows f e v next = found-later k row rows f v (leb-false mostEvents k e) next
+fault-step false false k row rows f e v next =
+    inl ((λ z. omega arith), record { index = 0; inside = omega arith; earlier = λ j h. absurd (omega arith); there = inr (refl, omega (arith, leb-false mostEvents k e), v) })
+
+pub fault-is : (k : ℕ) (rows : List Row) → Found k rows (eventsFault k rows)
+unfolding eventsFault
+fault-is k [] = inr (refl, (λ j h. absurd (omega arith)))
+fault-is k (row ∷ rows) = fault-step (leb mostEvents k) (isEvent (row .said)) k row rows (eventsFault (suc k) rows) refl refl (fault-is (suc k) rows)
 
 -- Before the mark that follows a list without it stands the list, and after it the rest.
 pub before-free : (mark : ℕ) {xs : List ℕ} (rest : List ℕ) → Free mark xs → before mark (xs ++ mark ∷ rest) ≡ xs

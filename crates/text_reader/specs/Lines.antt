@@ -31,8 +31,3 @@ onto byte (line ∷ lines) = (byte ∷ line) ∷ lines
 unfoldable pub linesIn : List ℕ → List (List ℕ)
 linesIn [] = []
 linesIn (byte ∷ text) = cond (eqb byte lineFeed) ([] ∷ linesIn text) (onto byte (linesIn text))
-
--- The empty text has one line, which is empty.
-unfoldable pub linesOf : List ℕ → List (List ℕ)
-linesOf [] = [] ∷ []
-linesOf (byte ∷ text) = linesIn (byte ∷ text)

@@ -1,81 +1,113 @@
--- The text of a record: N in its first line, then a line head:value for each event.
-use Prim.Native.Nat.{ℕ, suc, _+_, _*_}
+-- The text of a record: N in its first row, then a row head:value for each event.
+use Prim.Native.Nat.{ℕ, suc, _^_}
 use mathlib.Core.Bool.{Bool, cond, _&&_}
 use mathlib.Core.List.{List, [], _∷_, map}
-use lib.ListN.{getD, drop}
-use lib.Dec.{leb, eqb}
+use lib.ListN.{length, getD, drop}
+use lib.Dec.{leb}
 use Rattle.record.specs.Record.{mostEvents}
-use Rattle.text_reader.specs.Lines.{colon, before, after, linesOf}
+use Rattle.text_reader.specs.Lines.{colon, before, after, linesIn}
+use Rattle.text_reader.specs.Rows.{trimmed, Row, rowsOf}
 use Rattle.text_reader.specs.Numbers.{isNumber, numberIn}
 use Rattle.digits.specs.Digits.{numberOf}
 use Rattle.text_reader.specs.declared.Event.{Event}
+use Rattle.text_reader.specs.declared.Fault.{Fault}
 
--- Line 1: N in decimal, 1 to 3 digits.
+-- The first row: N in decimal, 1 to 3 digits.
 abbrev pub isSources : List ℕ → Bool
-isSources = isNumber 10 3
+isSources said = isNumber 10 3 (trimmed said)
 
 abbrev pub sourcesIn : List ℕ → ℕ
-sourcesIn = numberOf 10
+sourcesIn said = numberOf 10 (trimmed said)
 
--- Each further line: head, a colon, value.
+-- Each further row: head, a colon, value.
 abbrev pub headPart : List ℕ → List ℕ
-headPart = before colon
+headPart said = trimmed (before colon said)
 
 abbrev pub valuePart : List ℕ → List ℕ
-valuePart = after colon
+valuePart said = trimmed (after colon said)
 
--- Each has 1 to 8 hexadecimal digits. A line with no colon has no value.
+-- Each has 1 to 8 hexadecimal digits. A row with no colon has no value.
 abbrev pub isWord : List ℕ → Bool
 isWord = isNumber 16 8
 
 abbrev pub isEvent : List ℕ → Bool
-isEvent line = isWord (headPart line) && isWord (valuePart line)
+isEvent said = isWord (headPart said) && isWord (valuePart said)
 
-abbrev pub headIn : List ℕ → ℕ
-headIn line = numberOf 16 (headPart line)
+abbrev pub headIn : Row → ℕ
+headIn row = numberOf 16 (headPart (row .said))
 
-abbrev pub valueIn : List ℕ → ℕ
-valueIn line = numberOf 16 (valuePart line)
+abbrev pub valueIn : Row → ℕ
+valueIn row = numberOf 16 (valuePart (row .said))
 
--- What is found in such a line: of a part that is no number, 0.
+-- What is found in such a row: of a part that is no number, 0.
 abbrev pub eventIn : List ℕ → Event
-eventIn line =
+eventIn said =
     record {
-      ok = numberIn 16 8 (headPart line) .ok && numberIn 16 8 (valuePart line) .ok;
-      head = numberIn 16 8 (headPart line) .value;
-      value = numberIn 16 8 (valuePart line) .value;
+      ok = numberIn 16 8 (headPart said) .ok && numberIn 16 8 (valuePart said) .ok;
+      head = numberIn 16 8 (headPart said) .value;
+      value = numberIn 16 8 (valuePart said) .value;
     }
 
--- Line 1, and a line for each event.
-abbrev pub mostLines : ℕ
-mostLines = 1 + mostEvents
+-- What is wrong with a text: why, and the number of the line. Nothing is 0 and 0.
+abbrev pub fault : ℕ → ℕ → Fault
+fault reason number = record { why = reason; line = number }
 
--- The longest good text has 72,004 bytes: 4 of line 1, and 18 of each event.
+abbrev pub noFault : Fault
+noFault = fault 0 0
+
+-- 1: the line is not N, one to three decimal digits.
+abbrev pub notSources : ℕ → Fault
+notSources = fault 1
+
+-- 2: the line is not HEAD:VALUE in hexadecimal.
+abbrev pub notEvent : ℕ → Fault
+notEvent = fault 2
+
+-- 3: the line is that of an event more than 4,000, whatever it says.
+abbrev pub tooMany : ℕ → Fault
+tooMany = fault 3
+
+-- 4: the text has more than 1,048,576 bytes. That is of no line.
+abbrev pub tooLong : Fault
+tooLong = fault 4 0
+
 abbrev pub textSize : ℕ
-textSize = 4 + 18 * mostEvents
+textSize = 2 ^ 20
 
--- Lines are numbered from 1. Line 4,002 is bad in itself.
-abbrev pub isGood : ℕ → List ℕ → Bool
-isGood k line = cond (eqb k 1) (isSources line) (leb k mostLines && isEvent line)
+-- The first fault of rows of events, of which k stand before them.
+unfoldable pub eventsFault : ℕ → List Row → Fault
+eventsFault k [] = noFault
+eventsFault k (row ∷ rows) =
+    cond (leb mostEvents k) (tooMany (row .number))
+    (cond (isEvent (row .said)) (eventsFault (suc k) rows)
+    (notEvent (row .number)))
 
--- The number of the first bad line, where the first of these lines is line k; 0 where none is bad.
-unfoldable pub firstBadFrom : ℕ → List (List ℕ) → ℕ
-firstBadFrom k [] = 0
-firstBadFrom k (line ∷ lines) = cond (isGood k line) (firstBadFrom (suc k) lines) k
+-- The first fault of a text's rows. A text without a row has no N: it is missed in the line after the last.
+abbrev pub rowsFault : ℕ → List Row → Fault
+rowsFault next [] = notSources next
+rowsFault next (row ∷ rows) = cond (isSources (row .said)) (eventsFault 0 rows) (notSources (row .number))
 
-abbrev pub firstBad : List ℕ → ℕ
-firstBad text = firstBadFrom 1 (linesOf text)
+-- The first fault of a text. Its size is asked first.
+unfoldable pub textFault : List ℕ → Fault
+textFault text = cond (leb (length text) textSize) (rowsFault (suc (length (linesIn text))) (rowsOf text)) tooLong
 
--- What a text says that has no bad line: N is in its first line,
+-- What a text says that has no fault: N is in its first row,
+abbrev pub saidOf : List Row → ℕ → List ℕ
+saidOf rows i = getD (map (λ (row : Row). row .said) rows) i []
+
 abbrev pub sourcesOfText : List ℕ → ℕ
-sourcesOfText text = sourcesIn (getD (linesOf text) 0 [])
+sourcesOfText text = sourcesIn (saidOf (rowsOf text) 0)
 
--- and a head and a value in each line after it.
-abbrev pub linesOfEvents : List ℕ → List (List ℕ)
-linesOfEvents text = drop 1 (linesOf text)
+-- and a head and a value in each row after it.
+abbrev pub rowsOfEvents : List ℕ → List Row
+rowsOfEvents text = drop 1 (rowsOf text)
 
 abbrev pub headsOfText : List ℕ → List ℕ
-headsOfText text = map headIn (linesOfEvents text)
+headsOfText text = map headIn (rowsOfEvents text)
 
 abbrev pub valuesOfText : List ℕ → List ℕ
-valuesOfText text = map valueIn (linesOfEvents text)
+valuesOfText text = map valueIn (rowsOfEvents text)
+
+-- The numbers of the rows' lines.
+abbrev pub numbersOf : List Row → List ℕ
+numbersOf rows = map (λ (row : Row). row .number) rows

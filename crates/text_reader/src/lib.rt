@@ -1,27 +1,55 @@
-// The text of a record: N in decimal in the first line, then a line head:value in hexadecimal for each event. The record that a text makes.
+// The text of a record: N in decimal in the first row, then a row head:value in hexadecimal for each event. The record that a text makes.
 
 ghost use mathlib.Core.Path.{_≡_};
-ghost use mathlib.Core.List.{map};
-ghost use Prim.Native.Nat.{_+_, _≤_, _<_, min};
-ghost use lib.ListN.{length, take, drop};
+ghost use mathlib.Core.Bool.{true, false, cond};
+ghost use mathlib.Core.List.{map, [], _∷_};
+ghost use Prim.Native.Nat.{_+_, _-_, _≤_, _<_, min};
+ghost use lib.ListN.{length, getD, take, drop};
+ghost use lib.Dec.{ltb};
 ghost use Rattle.record.specs.Record.{mostEvents, recordSize};
-ghost use Rattle.text_reader.specs.Lines.{lineFeed, before, after, linesIn};
-ghost use Rattle.text_reader.specs.Numbers.{numberIn};
 ghost use Rattle.digits.specs.Digits.{digitOf};
-ghost use Rattle.text_reader.specs.Reading.{headIn, valueIn, eventIn, firstBadFrom, firstBad, sourcesOfText, headsOfText, valuesOfText};
+ghost use Rattle.text_reader.specs.Lines.{lineFeed, before, after, linesIn};
+ghost use Rattle.text_reader.specs.Rows.{withoutReturn, saidIn, isBlank, withoutLead, keptOf, trimmed, saysAny, rowsFrom, rowsOf};
+ghost use Rattle.text_reader.specs.Numbers.{numberIn};
+ghost use Rattle.text_reader.specs.Reading.{headIn, valueIn, eventIn, fault, textSize, eventsFault, textFault, sourcesOfText, headsOfText, valuesOfText, numbersOf};
 ghost use Rattle.text_reader.specs.Answers.{recordNumbers, toRecordAnswer, toRecordBytes, recordLength};
 use record::MOST_EVENTS;
 use record::RECORD_SIZE;
 use record::WriteAnswer;
 
-// The bytes of the longest good text: 4 of line 1, and 18 of each event.
-pub const TEXT_SIZE: usize = 4 + 18 * MOST_EVENTS;
+// The most bytes of a text.
+pub const TEXT_SIZE: usize = 1048576;
 
-// What making a record of a text answers: the record's length; the first bad line, from 1; or the refusal of the record's questions.
+// Why a text is refused: a line is not N, or not HEAD:VALUE, or is that of an event too many; or there are too many bytes.
+pub const NOT_SOURCES: u8 = 1;
+
+pub const NOT_EVENT: u8 = 2;
+
+pub const TOO_MANY: u8 = 3;
+
+pub const TOO_LONG: u8 = 4;
+
+// What making a record of a text answers: the record's length; why the text is refused, and its line, from 1 (0 where there are too many bytes); or the refusal of the
+// record's questions, its place, and the line that it is about.
 pub enum RecordAnswer {
-    Done { length: usize },
-    BadLine { line: usize },
-    Refused { refusal: u8, place: usize },
+    Done {
+        length: usize,
+    },
+    BadText {
+        why: u8,
+        line: usize,
+    },
+    Refused {
+        refusal: u8,
+        place: usize,
+        line: usize,
+    },
+}
+
+// What is wrong with a text, and the line. Nothing is 0 and 0.
+struct Fault {
+    why: u8,
+    line: usize,
 }
 
 // A number in a text; value 0 where there is none.
@@ -30,29 +58,40 @@ struct Number {
     value: u32,
 }
 
-// The event of a line; ok where the line is good.
+// The event of a row; ok where the row is good.
 struct Event {
     ok: bool,
     head: u32,
     value: u32,
 }
 
-// A line, and the place where the next begins.
+// A line: whether it says anything, the length of what it says, and the place where the next line begins.
 struct Line {
-    event: Event,
+    says: bool,
+    length: usize,
     next: usize,
 }
 
-// The first bad line, 0 where none is, and how many events were read.
+// The next row: whether there is one, the number of its line, the places where what it says begins and ends, and where the next line begins.
+struct Found {
+    found: bool,
+    number: usize,
+    from: usize,
+    to: usize,
+    next: usize,
+}
+
+// The first fault of the rows of events, and how many events were read.
 struct Lines {
-    bad: usize,
+    fault: Fault,
     events: usize,
 }
 
-// The same, with N.
+// The first fault of a text; else N, its line, and how many events were read.
 struct Listing {
-    bad: usize,
+    fault: Fault,
     sources: u32,
+    first: usize,
     events: usize,
 }
 
@@ -122,14 +161,62 @@ fn past(at: usize, length: usize) -> usize
     if at < length { at + 1 } else { at }
 }
 
-// The event that a line is.
-fn event_in(line: &[u8]) -> Event
-    ensures { λ r. ⌜ r ≡ eventIn (now (line .entry)) ⌝ }
+// Whether a byte is a blank or a tab.
+fn is_blank(byte: u8) -> bool
+    ensures { λ r. ⌜ r ≡ isBlank byte ⌝ }
 {
-    let at = find(line, b':');
-    let head = number_in(&line[..at], 16, 8);
-    let next = past(at, line.len());
-    let value = number_in(&line[next..], 16, 8);
+    (byte == b' ') | (byte == b'\t')
+}
+
+// How many blanks stand at the start.
+fn lead(text: &[u8]) -> usize
+    ensures { λ r. ⌜ drop r (now (text .entry)) ≡ withoutLead (now (text .entry)) ⌝ }
+    ensures { λ r. ⌜ r ≤ length (now (text .entry)) ⌝ }
+{
+    let mut i: usize = 0;
+    while i < text.len() {
+        if !is_blank(text[i]) {
+            return i;
+        }
+        i += 1;
+    }
+    i
+}
+
+// How many bytes are left without the blanks at the end.
+fn kept(text: &[u8]) -> usize
+    ensures { λ r. ⌜ r ≡ keptOf (now (text .entry)) (length (now (text .entry))) ⌝ }
+    ensures { λ r. ⌜ r ≤ length (now (text .entry)) ⌝ }
+{
+    let mut n = text.len();
+    while 0 < n {
+        if !is_blank(text[n - 1]) {
+            return n;
+        }
+        n -= 1;
+    }
+    n
+}
+
+// The number that a part of a line is, without the blanks around it.
+fn word_in(part: &[u8], base: u32, most: usize) -> Number
+    requires { ⌜ (base ≤ 16) × (most ≤ 8) ⌝ }
+    ensures { λ r. ⌜ r ≡ numberIn base most (trimmed (now (part .entry))) ⌝ }
+{
+    let from = lead(part);
+    let rest = &part[from..];
+    let to = kept(rest);
+    number_in(&rest[..to], base, most)
+}
+
+// The event that a row is.
+fn event_in(said: &[u8]) -> Event
+    ensures { λ r. ⌜ r ≡ eventIn (now (said .entry)) ⌝ }
+{
+    let at = find(said, b':');
+    let head = word_in(&said[..at], 16, 8);
+    let next = past(at, said.len());
+    let value = word_in(&said[next..], 16, 8);
     Event {
         ok: head.ok & value.ok,
         head: head.value,
@@ -137,73 +224,199 @@ fn event_in(line: &[u8]) -> Event
     }
 }
 
-// The line that begins at a place of the text: its event, and the place where the next line begins.
+// The length of a line without a carriage return at its end.
+fn unreturned(line: &[u8]) -> usize
+    ensures { λ r. ⌜ take r (now (line .entry)) ≡ withoutReturn (now (line .entry)) ⌝ }
+    ensures { λ r. ⌜ r ≤ length (now (line .entry)) ⌝ }
+{
+    let n = line.len();
+    if n == 0 {
+        return 0;
+    }
+    if line[n - 1] == b'\r' {
+        return n - 1;
+    }
+    n
+}
+
+// The length of what a line says.
+fn said_in(line: &[u8]) -> usize
+    ensures { λ r. ⌜ take r (now (line .entry)) ≡ saidIn (now (line .entry)) ⌝ }
+    ensures { λ r. ⌜ r ≤ length (now (line .entry)) ⌝ }
+{
+    let end = unreturned(line);
+    find(&line[..end], b'#')
+}
+
+// Whether what a line says is not all blank.
+fn says_any(said: &[u8]) -> bool
+    ensures { λ r. ⌜ r ≡ ltb 0 (length (withoutLead (now (said .entry)))) ⌝ }
+{
+    lead(said) < said.len()
+}
+
+// The line that begins at a place of the text.
 fn line_at(text: &[u8], from: usize) -> Line
     requires { ⌜ from ≤ length (now text) ⌝ }
-    ensures { λ r. ⌜ r .event ≡ eventIn (before lineFeed (drop from (now (text .entry)))) ⌝ }
+    ensures { λ r. ⌜ r .says ≡ saysAny (before lineFeed (drop from (now (text .entry)))) ⌝ }
+    ensures { λ r. ⌜ take (r .length) (drop from (now (text .entry))) ≡ saidIn (before lineFeed (drop from (now (text .entry)))) ⌝ }
+    ensures { λ r. ⌜ from + r .length ≤ length (now (text .entry)) ⌝ }
     ensures { λ r. ⌜ r .next ≤ length (now (text .entry)) ⌝ }
     ensures { λ r. ⌜ drop (r .next) (now (text .entry)) ≡ after lineFeed (drop from (now (text .entry))) ⌝ }
     ensures { λ r. ⌜ (from < length (now (text .entry)) → from < r .next) ⌝ }
 {
     let rest = &text[from..];
     let end = find(rest, b'\n');
-    let event = event_in(&rest[..end]);
+    let line = &rest[..end];
+    let length = said_in(line);
+    let says = says_any(&line[..length]);
     let next = from + past(end, rest.len());
-    Line { event, next }
+    Line { says, length, next }
 }
 
-// Stores the heads and values of the lines from a place on, up to the first that is bad.
-fn read_events(text: &[u8], from: usize, heads: &mut [u32], values: &mut [u32]) -> Lines
-    requires { ⌜ (from ≤ length (now text)) × (mostEvents ≤ length (now heads)) × (mostEvents ≤ length (now values)) ⌝ }
-    ensures { λ r. ⌜ r .bad ≡ firstBadFrom 2 (linesIn (drop from (now (text .entry)))) ⌝ }
-    ensures { λ r. ⌜ r .events ≤ mostEvents ⌝ }
-    ensures { λ r. ⌜ (r .bad ≡ 0 → r .events ≡ length (linesIn (drop from (now (text .entry))))) ⌝ }
-    ensures { λ r. ⌜ take (r .events) (now (heads .exit)) ≡ map headIn (take (r .events) (linesIn (drop from (now (text .entry))))) ⌝ }
-    ensures { λ r. ⌜ take (r .events) (now (values .exit)) ≡ map valueIn (take (r .events) (linesIn (drop from (now (text .entry))))) ⌝ }
+// The next row from a place on, where a line of this number begins.
+fn next_row(text: &[u8], start: usize, line: usize) -> Found
+    requires { ⌜ (start ≤ length (now text)) × (length (now text) ≤ textSize) × (line ≤ start + 1) ⌝ }
+    ensures { λ r. ⌜ (r .found ≡ true → rowsFrom line (linesIn (drop start (now (text .entry))))
+        ≡ record { number = r .number; said = take (r .to - r .from) (drop (r .from) (now (text .entry))) } ∷ rowsFrom (r .number + 1) (linesIn (drop (r .next) (now (text .entry))))) ⌝ }
+    ensures { λ r. ⌜ (r .found ≡ false → (rowsFrom line (linesIn (drop start (now (text .entry)))) ≡ [])
+        × (r .number ≡ line + length (linesIn (drop start (now (text .entry)))))) ⌝ }
+    ensures { λ r. ⌜ (r .from ≤ r .to) × (r .to ≤ length (now (text .entry))) × (r .next ≤ length (now (text .entry))) × (r .number ≤ r .next + 1) ⌝ }
+    ensures { λ r. ⌜ (r .found ≡ true → (start < r .next) × (r .number ≤ r .next)) ⌝ }
 {
-    let mut at = from;
-    let mut n: usize = 0;
-    let bad = loop {
-        if text.len() <= at {
-            break 0;
+    let mut at = start;
+    let mut number = line;
+    while at < text.len() {
+        let here = line_at(text, at);
+        if here.says {
+            return Found {
+                found: true,
+                number,
+                from: at,
+                to: at + here.length,
+                next: here.next,
+            };
         }
-        let line = line_at(text, at);
-        let event = line.event;
-        if (MOST_EVENTS <= n) | !event.ok {
-            break n + 2;
+        at = here.next;
+        number += 1;
+    }
+    Found {
+        found: false,
+        number,
+        from: at,
+        to: at,
+        next: at,
+    }
+}
+
+// Stores the heads and values of the rows from a place on, and the numbers of their lines, up to the first row that is bad.
+fn read_events(
+    text: &[u8],
+    start: usize,
+    line: usize,
+    heads: &mut [u32],
+    values: &mut [u32],
+    numbers: &mut [usize],
+) -> Lines
+    requires { ⌜ (start ≤ length (now text)) × (length (now text) ≤ textSize) × (line ≤ start + 1)
+        × (mostEvents ≤ length (now heads)) × (mostEvents ≤ length (now values)) × (mostEvents ≤ length (now numbers)) ⌝ }
+    ensures { λ r. ⌜ r .fault ≡ eventsFault 0 (rowsFrom line (linesIn (drop start (now (text .entry))))) ⌝ }
+    ensures { λ r. ⌜ r .events ≤ mostEvents ⌝ }
+    ensures { λ r. ⌜ (r .fault .why ≡ 0 → r .events ≡ length (rowsFrom line (linesIn (drop start (now (text .entry)))))) ⌝ }
+    ensures { λ r. ⌜ take (r .events) (now (heads .exit)) ≡ map headIn (take (r .events) (rowsFrom line (linesIn (drop start (now (text .entry)))))) ⌝ }
+    ensures { λ r. ⌜ take (r .events) (now (values .exit)) ≡ map valueIn (take (r .events) (rowsFrom line (linesIn (drop start (now (text .entry)))))) ⌝ }
+    ensures { λ r. ⌜ take (r .events) (now (numbers .exit)) ≡ numbersOf (take (r .events) (rowsFrom line (linesIn (drop start (now (text .entry)))))) ⌝ }
+{
+    let mut at = start;
+    let mut next = line;
+    let mut n: usize = 0;
+    let fault = loop {
+        let row = next_row(text, at, next);
+        if !row.found {
+            break Fault { why: 0, line: 0 };
+        }
+        let number = row.number;
+        if MOST_EVENTS <= n {
+            break Fault {
+                why: TOO_MANY,
+                line: number,
+            };
+        }
+        let from = row.from;
+        let to = row.to;
+        let event = event_in(&text[from..to]);
+        if !event.ok {
+            break Fault {
+                why: NOT_EVENT,
+                line: number,
+            };
         }
         heads[n] = event.head;
         values[n] = event.value;
-        at = line.next;
+        numbers[n] = number;
+        at = row.next;
+        next = number + 1;
         n += 1;
     };
-    Lines { bad, events: n }
+    Lines { fault, events: n }
 }
 
-// Reads a text: the first bad line, 0 where none is; else N, and the heads and values, which fill the first places.
-fn read_text(text: &[u8], heads: &mut [u32], values: &mut [u32]) -> Listing
-    requires { ⌜ (mostEvents ≤ length (now heads)) × (mostEvents ≤ length (now values)) ⌝ }
-    ensures { λ r. ⌜ r .bad ≡ firstBad (now (text .entry)) ⌝ }
-    ensures { λ r. ⌜ r .events ≤ mostEvents ⌝ }
-    ensures { λ r. ⌜ (r .bad ≡ 0 → (r .sources ≡ sourcesOfText (now (text .entry)))
-        × (take (r .events) (now (heads .exit)) ≡ headsOfText (now (text .entry)))
-        × (take (r .events) (now (values .exit)) ≡ valuesOfText (now (text .entry)))) ⌝ }
+// A text that has a fault, with the line.
+fn faulty(why: u8, line: usize) -> Listing
+    ensures { λ r. ⌜ (r .fault ≡ fault why line) × (r .events ≡ 0) ⌝ }
 {
-    let end = find(text, b'\n');
-    let first = number_in(&text[..end], 10, 3);
-    if !first.ok {
-        return Listing {
-            bad: 1,
-            sources: 0,
-            events: 0,
-        };
-    }
-    let lines = read_events(text, past(end, text.len()), heads, values);
     Listing {
-        bad: lines.bad,
+        fault: Fault { why, line },
+        sources: 0,
+        first: 0,
+        events: 0,
+    }
+}
+
+// Reads a text: its first fault; else N, its line, and the heads and values with their lines, which fill the first places.
+fn read_text(text: &[u8], heads: &mut [u32], values: &mut [u32], numbers: &mut [usize]) -> Listing
+    requires { ⌜ (mostEvents ≤ length (now heads)) × (mostEvents ≤ length (now values)) × (mostEvents ≤ length (now numbers)) ⌝ }
+    ensures { λ r. ⌜ r .fault ≡ textFault (now (text .entry)) ⌝ }
+    ensures { λ r. ⌜ r .events ≤ mostEvents ⌝ }
+    ensures { λ r. ⌜ (r .fault .why ≡ 0 → (r .sources ≡ sourcesOfText (now (text .entry)))
+        × (r .first ≡ getD (numbersOf (rowsOf (now (text .entry)))) 0 0)
+        × (take (r .events) (now (heads .exit)) ≡ headsOfText (now (text .entry)))
+        × (take (r .events) (now (values .exit)) ≡ valuesOfText (now (text .entry)))
+        × (take (r .events) (now (numbers .exit)) ≡ drop 1 (numbersOf (rowsOf (now (text .entry)))))) ⌝ }
+{
+    if TEXT_SIZE < text.len() {
+        return faulty(TOO_LONG, 0);
+    }
+    let row = next_row(text, 0, 1);
+    let number = row.number;
+    if !row.found {
+        return faulty(NOT_SOURCES, number);
+    }
+    let from = row.from;
+    let to = row.to;
+    let first = word_in(&text[from..to], 10, 3);
+    if !first.ok {
+        return faulty(NOT_SOURCES, number);
+    }
+    let lines = read_events(text, row.next, number + 1, heads, values, numbers);
+    let fault = lines.fault;
+    Listing {
+        fault,
         sources: first.value,
+        first: number,
         events: lines.events,
     }
+}
+
+// The line that a refusal of the record's questions is about: that of N, or for questions 6 and 7 that of the event.
+fn line_of(refusal: u8, place: usize, first: usize, numbers: &[usize; MOST_EVENTS]) -> usize
+    requires { ⌜ (6 ≤ refusal → place < mostEvents) ⌝ }
+    ensures { λ r. ⌜ r ≡ cond (ltb refusal 6) first (getD (now (numbers .entry)) place 0) ⌝ }
+{
+    if refusal < 6 {
+        return first;
+    }
+    numbers[place]
 }
 
 // Makes a record of a text: accepted, the record fills the first bytes; refused, all of them stay as they were.
@@ -214,14 +427,24 @@ pub fn to_record(text: &[u8], bytes: &mut [u8; RECORD_SIZE]) -> RecordAnswer
 {
     let mut heads: [u32; MOST_EVENTS] = [0; MOST_EVENTS];
     let mut values: [u32; MOST_EVENTS] = [0; MOST_EVENTS];
-    let listing = read_text(text, &mut heads, &mut values);
-    if listing.bad != 0 {
-        return RecordAnswer::BadLine { line: listing.bad };
+    let mut numbers: [usize; MOST_EVENTS] = [0; MOST_EVENTS];
+    let listing = read_text(text, &mut heads, &mut values, &mut numbers);
+    let fault = listing.fault;
+    if fault.why != 0 {
+        return RecordAnswer::BadText {
+            why: fault.why,
+            line: fault.line,
+        };
     }
     let n = listing.events;
+    let first = listing.first;
     let written = record_writer::write(listing.sources, &heads[..n], &values[..n], bytes);
     match written {
         WriteAnswer::Done { length } => RecordAnswer::Done { length },
-        WriteAnswer::Refused { refusal, place } => RecordAnswer::Refused { refusal, place },
+        WriteAnswer::Refused { refusal, place } => RecordAnswer::Refused {
+            refusal,
+            place,
+            line: line_of(refusal, place, first, &numbers),
+        },
     }
 }

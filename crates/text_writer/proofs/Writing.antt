@@ -13,6 +13,7 @@ use Rattle.digits.specs.Digits.{decimal, hexadecimal}
 use Rattle.digits.specs.Put.{putAt, placeAfter}
 use Rattle.digits.proofs.Digits.{digits-most}
 use Rattle.digits.proofs.Meaning.{digits-length}
+use Rattle.digits.proofs.Signs.{digits-some}
 use Rattle.digits.proofs.Pieces.{Stands, two, four, put, put-behind, room-first}
 use borrow.Author.Tests.{eq-eqb, ne-eqb}
 use Rattle.record.specs.declared.ReadAnswer.{ReadAnswer}
@@ -41,11 +42,23 @@ events-length (head ∷ heads) (value ∷ values) =
     rw (length-append (ended (eventText head value)) (eventsText heads values))
     (omega (arith, line-length head value, events-length heads values))
 
--- The first line has at most 4.
+-- And some.
+pub line-some : (head value : ℕ) → 0 < length (eventText head value)
+line-some head value = rw (length-append (hexadecimal 8 head) (colon ∷ hexadecimal 1 value)) (omega arith)
+
+-- The first line has at most 4, and some.
+pub sources-some : (n : ℕ) → 0 < length (sourcesText n)
+sources-some n = digits-some 10 1 20 n (lit< tt)
+
 sources-length : (n : ℕ) → n < 1000 → length (ended (sourcesText n)) ≤ 4
 sources-length n h =
     let l : length (decimal n) ≤ 3 = digits-length 10 1 20 n 2 (lit< tt) h (lit≤ tt) in
     rw (length-append (decimal n) (lineFeed ∷ [])) (omega arith)
+
+-- The whole text has at most 4 and 18 for each event.
+pub listing-length : (sources : ℕ) (heads values : List ℕ) → sources < 1000 → length (listingOf sources heads values) ≤ 4 + 18 * length heads
+listing-length sources heads values small =
+    rw (length-append (ended (sourcesText sources)) (eventsText heads values)) (omega (arith, sources-length sources small, events-length heads values))
 
 -- An event's line, put piece by piece.
 abbrev pieces : ℕ → ℕ → List ℕ

@@ -10,7 +10,9 @@ ghost use Rattle.text_writer.specs.Answers.{textNumbers, toTextAnswer, t
 ghost use Rattle.text_writer.specs.RoundTrip.{ComesBack};
 use record::MOST_EVENTS;
 use record::ReadAnswer;
-use text_reader::TEXT_SIZE;
+
+// The bytes of the longest text that is made: 4 of line 1, and 18 of each event.
+pub const LISTING_SIZE: usize = 4 + 18 * MOST_EVENTS;
 
 // What making a text of a record answers: the text's length; or the reader's refusal.
 pub enum TextAnswer {
@@ -58,7 +60,7 @@ fn put_listing(text: &mut [u8], sources: u32, heads: &[u32], values: &[u32]) -> 
 }
 
 // Makes a text of a record: accepted, the text fills the first bytes; refused, all of them stay as they were.
-pub fn to_text(bytes: &[u8], text: &mut [u8; TEXT_SIZE]) -> TextAnswer
+pub fn to_text(bytes: &[u8], text: &mut [u8; LISTING_SIZE]) -> TextAnswer
     ensures { λ r. ⌜ textNumbers r ≡ toTextAnswer (now (bytes .entry)) ⌝ }
     ensures { λ _. ⌜ now (text .exit) ≡ toTextBytes (now (bytes .entry)) (now (text .entry)) ⌝ }
     ensures { λ r. ⌜ textLength r ≤ length (now (text .exit)) ⌝ }

@@ -7,10 +7,10 @@ use Rattle.console.proofs.read_all.Statement.{statement}
 use Rattle.console.proofs.read_all.Tie as tie
 
 abbrev Inv-loop : tie.InvT-loop
-Inv-loop buffer₀ at₀ buffer at = (at ≤ length buffer) × (length buffer ≡ length buffer₀)
+Inv-loop file buffer₀ at₀ buffer at = (at ≤ length buffer) × (length buffer ≡ length buffer₀)
 
 abbrev μ-loop : tie.MeasureT-loop
-μ-loop buffer₀ at₀ buffer at = length buffer - at
+μ-loop file buffer₀ at₀ buffer at = length buffer - at
 
 loop-holds : tie.Need-loop-holds Inv-loop μ-loop
 loop-holds c = search needs
@@ -29,7 +29,7 @@ same-length-2 c = search needs
 
 returns-2 : tie.Need-returns-2 Inv-loop μ-loop
 returns-2 c =
-    let h : c .before .before .before .before .before .before .before .before .loop .at ≤ length (c .before .before .before .before .before .read-some .last .0) = search needs in
+    let h : c .before .before .before .before .before .before .before .before .loop .at ≤ length (c .before .before .before .before .before .read-some .last .1 .0) = search needs in
     (h, sym (length-take-le _ _ h))
 
 add-at : tie.Need-add-at Inv-loop μ-loop

@@ -21,7 +21,7 @@ use types.Run.{look, init, store, forget, stop, hop, fld, from, load, of-opd, an
 use types.Part.{whole, sub, look-in, agg}
 use types.SemTy.{Body}
 use sound.WpLaws.{FmC, fmOf, WpFn-mono}
-use denote.RattleType.{RattleType, owns}
+use denote.RattleType.{owns}
 use denote.Laws.{Is, shows}
 use denote.Memory.{mem, cellAt}
 use denote.Plain.{uint-vals, uint-tells, uint-makes}
@@ -49,6 +49,7 @@ use Rattle.handlers.proofs.Outcome.Laws as O′
 use Rattle.lent_machine.specs.declared.Answered.{Answered}
 use Rattle.lent_machine.proofs.Answered as Q
 use Rattle.lent_machine.proofs.Answered.Laws as Q′
+use Rattle.lent_machine.proofs.Lent.{R, mach}
 use Rattle.handlers.proofs.Machine.step as step
 use Rattle.handlers.proofs.Machine.step.Symbol as step-def
 use Rattle.handlers.proofs.Machine.step.Symbol.{name as #step}
@@ -58,9 +59,6 @@ use Rattle.lent_machine.proofs.advance as advance
 use Rattle.lent_machine.proofs.advance.Statement as stated
 use Rattle.lent_machine.proofs.advance.Code as code
 
-abbrev R : RattleType
-R = T.the-row
-
 abbrev stayed : Stays (advance.ended .signature .params) (advance.ended .kept)
 stayed = (stay-ref (0 ∷ []) tt (plain (λ _. T.the-row)), (stay-none (λ _. u32) yes, (stay-none (λ _. u32) yes, tt)))
 
@@ -69,10 +67,7 @@ says-both : {M : Type 1} {𝓤 : URA M} {H : Heap 𝓤} {A : Atoms 𝓤} {K : Ty
     → Rule K W Γ (prop P) Γ (prop (sep 𝓤 P (sep 𝓤 (fact 𝓤 φ) (fact 𝓤 ψ))))
 says-both {𝓤 = 𝓤} t {φ} {ψ} {P} x y = rule (λ s. suffices t _ (assoc∗ 𝓤 P (fact 𝓤 φ) (fact 𝓤 ψ)) $ says t y $ says t x $ s)
 
--- the machine value of a Machine, and what `advance` answers with its machine value
-abbrev mach : Machine → Val
-mach h = LL.val T.the-type T′.the-laws h
-
+-- what `advance` answers, and its machine value
 abbrev answered : Outcome → Answered
 answered r = record { answer = r .answer; refusal = r .refusal }
 

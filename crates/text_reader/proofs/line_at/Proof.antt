@@ -1,6 +1,6 @@
 use mathlib.Core.Path.{sym}
 use lib.Seq.{length-take-le}
-use Rattle.text_reader.proofs.Turns.{line-there, next-there}
+use Rattle.text_reader.proofs.Turns.{said-is, says-is, next-there}
 use borrow.Author.Needs.{needs}
 use Rattle.text_reader.proofs.line_at.Statement.{statement}
 use Rattle.text_reader.proofs.line_at.Tie as tie
@@ -17,11 +17,17 @@ part-rest-end c = search needs
 find-requires : tie.Need-find-requires
 find-requires c κs = search needs
 
-slice-aggregate-event-in : tie.Need-slice-aggregate-event-in
-slice-aggregate-event-in c = sym (length-take-le _ _ (c .before .find .ensures .1))
+slice-aggregate-line : tie.Need-slice-aggregate-line
+slice-aggregate-line c = sym (length-take-le _ _ (c .before .find .ensures .1))
 
-event-in-requires : tie.Need-event-in-requires
-event-in-requires c κs = search needs
+said-in-requires : tie.Need-said-in-requires
+said-in-requires c κs = search needs
+
+slice-aggregate-says-any : tie.Need-slice-aggregate-says-any
+slice-aggregate-says-any c = sym (length-take-le _ _ (c .before .said-in .ensures .1))
+
+says-any-requires : tie.Need-says-any-requires
+says-any-requires c κs = search needs
 
 past-requires : tie.Need-past-requires
 past-requires c κs = search needs
@@ -31,12 +37,16 @@ add-next c = search needs
 
 returns : tie.Need-returns
 returns c =
-    let event = c .before in
-    let found = event .before .before in
+    let says = c .before in
+    let said = says .before .before in
+    let found = said .before .before in
     let start = found .before .before .before in
     let text = start .args .text .now in
-    let next = next-there text (start .args .from) (start .pre) (found .find .ensures .0) (c .past .ensures) in
-    (line-there text (start .args .from) (start .pre) (found .find .ensures .0) (event .event-in .ensures), (next .0, (next .1, next .2)))
+    let from = start .args .from in
+    let end = found .find .ensures in
+    let is = said-is text from (start .pre) (end .0) (end .1) (said .said-in .result) (said .said-in .ensures .0) (said .said-in .ensures .1) in
+    let next = next-there text from (start .pre) (end .0) (end .1) (c .past .ensures) in
+    (says-is text from (start .pre) (end .0) (end .1) (said .said-in .result) (said .said-in .ensures .0) (says .says-any .ensures), (is .0, (is .1, (next .0, (next .1, next .2)))))
 
 pub line-at-spec : {M : Type 1} → statement M
 line-at-spec =
@@ -46,8 +56,10 @@ line-at-spec =
     part-rest-start
     part-rest-end
     find-requires
-    slice-aggregate-event-in
-    event-in-requires
+    slice-aggregate-line
+    said-in-requires
+    slice-aggregate-says-any
+    says-any-requires
     past-requires
     add-next
     returns)

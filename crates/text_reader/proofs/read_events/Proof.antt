@@ -1,86 +1,122 @@
-use borrow.Author.Needs.{needs}
-use Prim.Native.Nat.{_≤_, _<_, _-_, _+_}
+use Prim.Native.Nat.{ℕ, _≤_, _<_, _-_, _+_}
 use mathlib.Core.Path.{_≡_, refl, sym, _∙_}
-use mathlib.Core.List.{map}
+use mathlib.Core.List.{List, map}
 use native.Mathlib.Omega.{arith}
+use borrow.Author.Tests.{not-true, not-false}
 use lib.ListN.{length, take, drop}
 use Rattle.record.specs.Record.{mostEvents}
 use Rattle.text_reader.specs.Lines.{linesIn}
-use Rattle.text_reader.specs.Reading.{headIn, valueIn, firstBadFrom}
-use Rattle.text_reader.proofs.Turns.{goes, bad-stop, good-turn, lines-turn, count-turn, heads-turn, values-turn, end-stop, end-count}
+use Rattle.text_reader.specs.Rows.{Row, rowsFrom}
+use Rattle.text_reader.specs.Reading.{headIn, valueIn, numbersOf, textSize, eventsFault}
+use Rattle.text_reader.proofs.Turns.{rows-turn, count-turn, stored-turn, rows-end, fault-many, fault-event, fault-turn, fault-none, head-is, value-is}
+use borrow.Author.Needs.{needs}
 use Rattle.text_reader.proofs.read_events.Statement.{statement}
 use Rattle.text_reader.proofs.read_events.Tie as tie
 
 abbrev Inv-loop : tie.InvT-loop
-Inv-loop text from heads₀ values₀ at₀ n₀ heads values at n =
+Inv-loop text start line heads₀ values₀ numbers₀ at₀ next₀ n₀ heads values numbers at next n =
     (at ≤ length text)
+    × (next ≤ at + 1)
+    × (length text ≤ textSize)
     × (n ≤ mostEvents)
-    × (n ≤ length (linesIn (drop from text)))
-    × (drop n (linesIn (drop from text)) ≡ linesIn (drop at text))
-    × (firstBadFrom 2 (linesIn (drop from text)) ≡ firstBadFrom (n + 2) (linesIn (drop at text)))
-    × (take n heads ≡ map headIn (take n (linesIn (drop from text))))
-    × (take n values ≡ map valueIn (take n (linesIn (drop from text))))
-    × (mostEvents ≤ length heads)
-    × (mostEvents ≤ length values)
+    × (n ≤ length (rowsFrom line (linesIn (drop start text))))
+    × (drop n (rowsFrom line (linesIn (drop start text))) ≡ rowsFrom next (linesIn (drop at text)))
+    × (eventsFault 0 (rowsFrom line (linesIn (drop start text))) ≡ eventsFault n (rowsFrom next (linesIn (drop at text))))
+    × (take n heads ≡ map headIn (take n (rowsFrom line (linesIn (drop start text)))))
+    × (take n values ≡ map valueIn (take n (rowsFrom line (linesIn (drop start text)))))
+    × (take n numbers ≡ numbersOf (take n (rowsFrom line (linesIn (drop start text)))))
+    × (mostEvents ≤ length heads₀)
+    × (mostEvents ≤ length values₀)
+    × (mostEvents ≤ length numbers₀)
     × (length heads ≡ length heads₀)
     × (length values ≡ length values₀)
+    × (length numbers ≡ length numbers₀)
 
 abbrev μ-loop : tie.MeasureT-loop
-μ-loop text from heads₀ values₀ at₀ n₀ heads values at n = length text - at
+μ-loop text start line heads₀ values₀ numbers₀ at₀ next₀ n₀ heads values numbers at next n = length text - at
 
 loop-holds : tie.Need-loop-holds Inv-loop μ-loop
-loop-holds c = (search needs, search needs, search needs, refl, refl, refl, refl, search needs, search needs, search needs, search needs)
+loop-holds c = (search needs, search needs, search needs, search needs, search needs, refl, refl, refl, refl, refl, search needs, search needs, search needs, search needs, search needs, search needs)
 
-line-at-requires : tie.Need-line-at-requires Inv-loop μ-loop
-line-at-requires c κs = search needs
+next-row-requires : tie.Need-next-row-requires Inv-loop μ-loop
+next-row-requires c κs = search needs
 
-add-bad : tie.Need-add-bad Inv-loop μ-loop
-add-bad c = search needs
+sub-event-in : tie.Need-sub-event-in Inv-loop μ-loop
+sub-event-in c = search needs
 
--- There is room for one more.
-room : (c : tie.Else2 Inv-loop μ-loop) → c .before .before .before .before .before .loop .n < mostEvents
-room c = goes (c .before .before .before .before .before .loop .n) (c .before .before .before .line-at .result .event .ok) (c .if2 .left) .0
+part-event-in-start : tie.Need-part-event-in-start Inv-loop μ-loop
+part-event-in-start c = search needs
+
+part-event-in-end : tie.Need-part-event-in-end Inv-loop μ-loop
+part-event-in-end c = search needs
+
+event-in-requires : tie.Need-event-in-requires Inv-loop μ-loop
+event-in-requires c κs = search needs
 
 mul-heads : tie.Need-mul-heads Inv-loop μ-loop
-mul-heads c = let h = room c in search needs
+mul-heads c = search needs
 
 slice-write-heads : tie.Need-slice-write-heads Inv-loop μ-loop
-slice-write-heads c = let h = room c in search needs
+slice-write-heads c = search needs
 
 mul-values : tie.Need-mul-values Inv-loop μ-loop
-mul-values c = let h = room c in search needs
+mul-values c = search needs
 
 slice-write-values : tie.Need-slice-write-values Inv-loop μ-loop
-slice-write-values c = let h = room c in search needs
+slice-write-values c = search needs
+
+mul-numbers : tie.Need-mul-numbers Inv-loop μ-loop
+mul-numbers c = search needs
+
+slice-write-numbers : tie.Need-slice-write-numbers Inv-loop μ-loop
+slice-write-numbers c = search needs
+
+add-next : tie.Need-add-next Inv-loop μ-loop
+add-next c = search needs
 
 add-n : tie.Need-add-n Inv-loop μ-loop
-add-n c = let h = room c in search needs
+add-n c = search needs
 
 loop-less : tie.Need-loop-less Inv-loop μ-loop
-loop-less c = omega (arith, c .before .before .before .line-at .ensures .1 .1 .1 (c .before .before .before .before .if1 .left))
+loop-less c =
+    let row = c .before .before .before .before .before .before .before in
+    omega (arith, row .next-row .ensures .1 .1 .1 (not-false (row .next-row .result .found) (c .before .before .before .before .before .if1 .left)) .0)
+
+-- There is a place for one more.
+room-there : (c : tie.Else3 Inv-loop μ-loop)
+    → let at-loop = c .before .before .before .before .before .before .before .before in
+    (at-loop .loop .n < length (at-loop .loop .heads)) × (at-loop .loop .n < length (at-loop .loop .values)) × (at-loop .loop .n < length (at-loop .loop .numbers))
+room-there c = (search needs, search needs, search needs)
 
 loop-again : tie.Need-loop-again Inv-loop μ-loop
 loop-again c =
-    let read = c .before .before .before in
-    let inside = read .before .if1 .left in
-    let at-loop = read .before .before in
+    let event = c .before .before in
+    let room = event .before .before in
+    let test = room .before in
+    let row = test .before .before in
+    let at-loop = row .before in
     let inv = at-loop .loop .inv in
     let n = at-loop .loop .n in
-    let args = at-loop .before .before .before .before .args in
-    let ls = linesIn (drop (args .from) (args .text .now)) in
-    let event = read .line-at .ensures .0 in
-    let next = read .line-at .ensures .1 .1 .0 in
-    let more = c .if2 .left in
-    let h = room c in
-    let lh : n < length (at-loop .loop .heads) = search needs in
-    let lv : n < length (at-loop .loop .values) = search needs in (
-      read .line-at .ensures .1 .0,
+    let args = at-loop .before .before .before .before .before .args in
+    let rows = rowsFrom (args .line) (linesIn (drop (args .start) (args .text .now))) in
+    let q = row .next-row .ensures .0 (not-false (row .next-row .result .found) (test .if1 .left)) in
+    let on = row .next-row .ensures .1 .1 .1 (not-false (row .next-row .result .found) (test .if1 .left)) in
+    let h = room .if2 .left in
+    let ev = event .event-in .ensures in
+    let good = c .if3 .left in
+    let place = room-there c in (
+      row .next-row .ensures .1 .1 .0 .2,
+      omega (arith, on .1),
+      inv .2,
+      omega arith,
+      count-turn rows n _ (inv .5) q,
+      rows-turn rows n _ (inv .5) q,
+      fault-turn n _ q h ev good (inv .6),
+      stored-turn rows n _ (inv .5) q headIn _ _ (head-is n _ q h ev good) (place .0) (inv .7),
+      stored-turn rows n _ (inv .5) q valueIn _ _ (value-is n _ q h ev good) (place .1) (inv .8),
+      stored-turn rows n _ (inv .5) q (λ (r : Row). r .number) _ _ refl (place .2) (inv .9),
       search needs,
-      count-turn _ _ inside (read .line-at .result .next) next n _ event more ls (inv .3),
-      lines-turn _ _ inside (read .line-at .result .next) next n _ event more ls (inv .3),
-      inv .4 ∙ good-turn _ _ inside (read .line-at .result .next) next n _ event more,
-      heads-turn _ _ inside (read .line-at .result .next) next n _ event more ls (inv .3) _ lh (inv .5),
-      values-turn _ _ inside (read .line-at .result .next) next n _ event more ls (inv .3) _ lv (inv .6),
+      search needs,
       search needs,
       search needs,
       search needs,
@@ -93,26 +129,51 @@ same-length c = search needs
 same-length-2 : tie.Need-same-length-2 Inv-loop μ-loop
 same-length-2 c = search needs
 
-returns : tie.Need-returns Inv-loop μ-loop
-returns c =
-    let at-loop = c .before in
-    let inv = at-loop .loop .inv in
-    let over = c .if1 .taken in
-    (end-stop _ _ over _ ∙ sym (inv .4), (inv .1, ((λ z. end-count _ _ over _ _ (inv .2) (inv .3)), (inv .5, inv .6))))
-
 same-length-3 : tie.Need-same-length-3 Inv-loop μ-loop
 same-length-3 c = search needs
+
+returns : tie.Need-returns Inv-loop μ-loop
+returns c =
+    let row = c .before .before in
+    let inv = row .before .loop .inv in
+    let none = row .next-row .ensures .1 .0 (not-true (row .next-row .result .found) (c .if1 .taken)) .0 in
+    (fault-none _ none (inv .6), (inv .3, ((λ z. rows-end _ _ (inv .4) (inv .5) none), (inv .7, (inv .8, inv .9)))))
 
 same-length-4 : tie.Need-same-length-4 Inv-loop μ-loop
 same-length-4 c = search needs
 
+same-length-5 : tie.Need-same-length-5 Inv-loop μ-loop
+same-length-5 c = search needs
+
+same-length-6 : tie.Need-same-length-6 Inv-loop μ-loop
+same-length-6 c = search needs
+
 returns-2 : tie.Need-returns-2 Inv-loop μ-loop
 returns-2 c =
-    let read = c .before .before .before in
-    let inv = read .before .before .loop .inv in (
-      bad-stop _ _ (read .before .if1 .left) _ (read .line-at .ensures .0) (c .if2 .taken) ∙ sym (inv .4),
-      (inv .1, ((λ z. absurd (omega arith)), (inv .5, inv .6))),
-    )
+    let test = c .before in
+    let row = test .before .before in
+    let inv = row .before .loop .inv in
+    let q = row .next-row .ensures .0 (not-false (row .next-row .result .found) (test .if1 .left)) in
+    (fault-many _ _ q (c .if2 .taken) (inv .6), (inv .3, ((λ z. absurd (omega arith)), (inv .7, (inv .8, inv .9)))))
+
+same-length-7 : tie.Need-same-length-7 Inv-loop μ-loop
+same-length-7 c = search needs
+
+same-length-8 : tie.Need-same-length-8 Inv-loop μ-loop
+same-length-8 c = search needs
+
+same-length-9 : tie.Need-same-length-9 Inv-loop μ-loop
+same-length-9 c = search needs
+
+returns-3 : tie.Need-returns-3 Inv-loop μ-loop
+returns-3 c =
+    let event = c .before .before in
+    let room = event .before .before in
+    let test = room .before in
+    let row = test .before .before in
+    let inv = row .before .loop .inv in
+    let q = row .next-row .ensures .0 (not-false (row .next-row .result .found) (test .if1 .left)) in
+    (fault-event _ _ q (room .if2 .left) (event .event-in .ensures) (c .if3 .taken) (inv .6), (inv .3, ((λ z. absurd (omega arith)), (inv .7, (inv .8, inv .9)))))
 
 pub read-events-spec : {M : Type 1} → statement M
 read-events-spec =
@@ -121,18 +182,30 @@ read-events-spec =
     Inv-loop
     μ-loop
     loop-holds
-    line-at-requires
-    add-bad
+    next-row-requires
+    sub-event-in
+    part-event-in-start
+    part-event-in-end
+    event-in-requires
     mul-heads
     slice-write-heads
     mul-values
     slice-write-values
+    mul-numbers
+    slice-write-numbers
+    add-next
     add-n
     loop-less
     loop-again
     same-length
     same-length-2
-    returns
     same-length-3
+    returns
     same-length-4
-    returns-2)
+    same-length-5
+    same-length-6
+    returns-2
+    same-length-7
+    same-length-8
+    same-length-9
+    returns-3)

@@ -1,32 +1,70 @@
-use mathlib.Core.Path.{sym}
+use mathlib.Core.Path.{_∙_, ap}
 use native.Mathlib.Omega.{arith}
-use lib.Seq.{length-take-le}
-use Rattle.text_reader.proofs.Made.{first-bad, first-good, sources-read, heads-read, values-read}
+use borrow.Author.Tests.{not-true, not-false}
+use Rattle.text_reader.specs.declared.Fault.{Fault}
+use Rattle.text_reader.specs.Reading.{headIn, valueIn}
+use Rattle.text_reader.proofs.Made.{long-text, no-rows, sources-bad, sources-good, sources-read, first-line, part-read, lines-read}
 use borrow.Author.Needs.{needs}
 use Rattle.text_reader.proofs.read_text.Statement.{statement}
 use Rattle.text_reader.proofs.read_text.Tie as tie
 
-find-requires : tie.Need-find-requires
-find-requires c κs = search needs
-
-slice-aggregate-number-in : tie.Need-slice-aggregate-number-in
-slice-aggregate-number-in c = sym (length-take-le _ _ (c .before .find .ensures .1))
-
-number-in-requires : tie.Need-number-in-requires
-number-in-requires c κs = search needs
+faulty-requires : tie.Need-faulty-requires
+faulty-requires c κs = search needs
 
 returns : tie.Need-returns
 returns c =
-    let number = c .before .before in
-    let found = number .before .before in
-    let text = found .before .before .before .before .args .text .now in
-    (first-bad text (found .find .ensures .0) (number .number-in .ensures) (c .if1 .taken), (search needs, (λ z. absurd (omega arith))))
+    let e = c .faulty .ensures in
+    (e .0 ∙ long-text _ (c .before .if1 .taken), (omega (arith, e .1), (λ z. absurd (omega (arith, z, ap (λ (f : Fault). f .why) (e .0))))))
 
-past-requires : tie.Need-past-requires
-past-requires c κs = search needs
+next-row-requires : tie.Need-next-row-requires
+next-row-requires c κs = search needs
+
+faulty-requires-2 : tie.Need-faulty-requires-2
+faulty-requires-2 c κs = search needs
+
+returns-2 : tie.Need-returns-2
+returns-2 c =
+    let test = c .before in
+    let row = test .before .before in
+    let none = row .next-row .ensures .1 .0 (not-true (row .next-row .result .found) (test .if2 .taken)) in
+    let e = c .faulty2 .ensures in
+    (e .0 ∙ no-rows _ (row .before .if1 .left) (none .0) (none .1), (omega (arith, e .1), (λ z. absurd (omega (arith, z, ap (λ (f : Fault). f .why) (e .0))))))
+
+sub-word-in : tie.Need-sub-word-in
+sub-word-in c = search needs
+
+part-word-in-start : tie.Need-part-word-in-start
+part-word-in-start c = search needs
+
+part-word-in-end : tie.Need-part-word-in-end
+part-word-in-end c = search needs
+
+word-in-requires : tie.Need-word-in-requires
+word-in-requires c κs = search needs
+
+faulty-requires-3 : tie.Need-faulty-requires-3
+faulty-requires-3 c κs = search needs
+
+returns-3 : tie.Need-returns-3
+returns-3 c =
+    let first = c .before .before .before in
+    let test = first .before .before in
+    let row = test .before .before in
+    let q = row .next-row .ensures .0 (not-false (row .next-row .result .found) (test .if2 .left)) in
+    let e = c .faulty3 .ensures in (
+      e .0 ∙ sources-bad _ (row .before .if1 .left) _ q (first .word-in .ensures) (c .before .if3 .taken),
+      (omega (arith, e .1), (λ z. absurd (omega (arith, z, ap (λ (f : Fault). f .why) (e .0))))),
+    )
+
+add-read-events : tie.Need-add-read-events
+add-read-events c = search needs
 
 read-events-requires : tie.Need-read-events-requires
-read-events-requires c κs = search needs
+read-events-requires c κs =
+    let test = c .before .before .before .before .before .before .before in
+    let row = test .before .before in
+    let on = row .next-row .ensures .1 .1 .1 (not-false (row .next-row .result .found) (test .if2 .left)) in
+    (search needs, search needs, omega (arith, on .1), search needs, search needs, search needs)
 
 same-length : tie.Need-same-length
 same-length c = search needs
@@ -34,26 +72,30 @@ same-length c = search needs
 same-length-2 : tie.Need-same-length-2
 same-length-2 c = search needs
 
-returns-2 : tie.Need-returns-2
-returns-2 c =
-    let read = c .before .before .before .before in
-    let next = read .before .before .before in
-    let test = next .before in
-    let number = test .before .before in
-    let found = number .before .before in
-    let text = found .before .before .before .before .args .text .now in
-    let end = found .find .ensures .0 in
-    let v = number .number-in .ensures in
-    let good = test .if1 .left in
-    let past = next .past .ensures in
-    let lines = read .read-events .ensures in (
-      first-good text end v good past (lines .0),
+same-length-3 : tie.Need-same-length-3
+same-length-3 c = search needs
+
+returns-4 : tie.Need-returns-4
+returns-4 c =
+    let read = c .before .before .before .before .before .before .before in
+    let good = read .before .before .before .before in
+    let first = good .before .before in
+    let test = first .before .before in
+    let row = test .before .before in
+    let short = row .before .if1 .left in
+    let q = row .next-row .ensures .0 (not-false (row .next-row .result .found) (test .if2 .left)) in
+    let v = first .word-in .ensures in
+    let z = good .if3 .left in
+    let events = read .read-events .ensures in (
+      sources-good _ short _ q v z (events .0),
       (
-        lines .1 .0,
-        (λ z. (
-          sources-read text end v good past,
-          heads-read text end v good past _ (lines .1 .1 .0 z) (lines .1 .1 .1 .0),
-          values-read text end v good past _ (lines .1 .1 .0 z) (lines .1 .1 .1 .1),
+        events .1 .0,
+        (λ well. (
+          sources-read _ short _ q v z,
+          first-line _ short _ q v z,
+          part-read _ short _ q v z headIn _ (events .1 .1 .0 well) (events .1 .1 .1 .0),
+          part-read _ short _ q v z valueIn _ (events .1 .1 .0 well) (events .1 .1 .1 .1 .0),
+          lines-read _ short _ q v z _ (events .1 .1 .0 well) (events .1 .1 .1 .1 .1),
         )),
       ),
     )
@@ -62,12 +104,20 @@ pub read-text-spec : {M : Type 1} → statement M
 read-text-spec =
     tie.close
     (tie.spec
-    find-requires
-    slice-aggregate-number-in
-    number-in-requires
+    faulty-requires
     returns
-    past-requires
+    next-row-requires
+    faulty-requires-2
+    returns-2
+    sub-word-in
+    part-word-in-start
+    part-word-in-end
+    word-in-requires
+    faulty-requires-3
+    returns-3
+    add-read-events
     read-events-requires
     same-length
     same-length-2
-    returns-2)
+    same-length-3
+    returns-4)

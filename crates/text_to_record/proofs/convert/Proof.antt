@@ -29,8 +29,8 @@ write-out-requires c κs = search needs
 enum-known-answer-2 : tie.Need-enum-known-answer-2
 enum-known-answer-2 c = search needs
 
-say-bad-line-requires : tie.Need-say-bad-line-requires
-say-bad-line-requires c κs = search needs
+say-bad-requires : tie.Need-say-bad-requires
+say-bad-requires c κs = search needs
 
 enum-known-answer-3 : tie.Need-enum-known-answer-3
 enum-known-answer-3 c = search needs
@@ -57,7 +57,7 @@ convert-spec =
     slice-aggregate-write-out
     write-out-requires
     enum-known-answer-2
-    say-bad-line-requires
+    say-bad-requires
     enum-known-answer-3
     say-refused-requires
     returns

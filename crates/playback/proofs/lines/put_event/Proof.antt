@@ -1,7 +1,7 @@
 use Rattle.digits.proofs.Pieces.{room-first, room-second, two}
 use Rattle.digits.specs.Digits.{decimal}
 use mathlib.Core.List.{_++_}
-use Rattle.playback.specs.Text.{ascii}
+use Rattle.digits.specs.Ascii.{ascii}
 use lib.ListN.{length}
 use Rattle.playback.proofs.Rows.{five-behind, event-room}
 use borrow.Author.Needs.{needs}

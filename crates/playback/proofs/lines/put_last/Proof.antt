@@ -1,7 +1,8 @@
 use Rattle.digits.proofs.Pieces.{room-first, room-second, two, stands-as}
 use Rattle.digits.specs.Digits.{decimal}
 use mathlib.Core.List.{_++_}
-use Rattle.playback.specs.Text.{ascii, signed}
+use Rattle.digits.specs.Ascii.{ascii}
+use Rattle.playback.specs.Text.{signed}
 use lib.ListN.{length}
 use Rattle.playback.proofs.Rows.{three-behind, last-room}
 use borrow.Author.Needs.{needs}

@@ -1,7 +1,7 @@
 use Rattle.digits.proofs.Pieces.{room-first, put-behind}
 use Rattle.digits.specs.Digits.{decimal}
 use mathlib.Core.List.{_++_}
-use Rattle.playback.specs.Text.{ascii}
+use Rattle.digits.specs.Ascii.{ascii}
 use lib.ListN.{length}
 use borrow.Author.Needs.{needs}
 use Rattle.playback.proofs.lines.put_line.Statement.{statement}

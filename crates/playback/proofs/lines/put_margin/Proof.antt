@@ -1,7 +1,8 @@
 use mathlib.Core.Path.{sym}
 use Rattle.digits.proofs.Pieces.{four, stands-as}
 use Rattle.digits.specs.Digits.{decimal}
-use Rattle.playback.specs.Text.{ascii, minus}
+use Rattle.digits.specs.Ascii.{ascii}
+use Rattle.playback.specs.Text.{minus}
 use lib.ListN.{length}
 use Rattle.playback.proofs.Rows.{four-margin, margin-room}
 use borrow.Author.Needs.{needs}

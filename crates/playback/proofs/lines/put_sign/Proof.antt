@@ -1,4 +1,4 @@
-use Rattle.playback.specs.Text.{ascii}
+use Rattle.digits.specs.Ascii.{ascii}
 use borrow.Author.Needs.{needs}
 use Rattle.playback.proofs.lines.put_sign.Statement.{statement}
 use Rattle.playback.proofs.lines.put_sign.Tie as tie

@@ -1,0 +1,2 @@
+-- The rules of the calls for C and Rust.
+pub mod End

@@ -1,0 +1,575 @@
+//! Test texts from a seed, in families.
+
+use crate::event::Event;
+use crate::generate::{self, bad_kind, small_record, turn, use_unused, with_events};
+use crate::random::Random;
+use crate::record::{self, Record, MOST_EVENTS};
+use crate::text::{canonical, MOST_BYTES};
+
+pub struct Text {
+    pub family: &'static str,
+    pub bytes: Vec<u8>,
+}
+
+type Family = (&'static str, fn(&mut Random) -> Vec<u8>);
+
+pub const FAMILIES: &[Family] = &[
+    ("canonical", plain),
+    ("dressed", dressed),
+    ("dressed, long", dressed_long),
+    ("byte replaced", byte_replaced),
+    ("byte inserted", byte_inserted),
+    ("byte removed", byte_removed),
+    ("carriage returns", carriage_returns),
+    ("stray comments", stray_comments),
+    ("colons", colons),
+    ("digits", digits),
+    ("foreign bytes", foreign_bytes),
+    ("lines moved", lines_moved),
+    ("last line", last_line),
+    ("wrong N", wrong_sources),
+    ("unknown kind", unknown_kind),
+    ("unused parts", unused_parts),
+    ("several faults", several_faults),
+    ("nothing said", nothing_said),
+    ("empty", empty),
+    ("event counts", event_counts),
+    ("lengths", lengths),
+    ("noise", noise),
+];
+
+/// Text `index` of `seed`.
+pub fn make(seed: u64, index: u64) -> Text {
+    let (family, build) = FAMILIES[turn(index, FAMILIES.len())];
+    let mut random = Random::for_index(seed, index);
+    Text {
+        family,
+        bytes: build(&mut random),
+    }
+}
+
+// Good texts.
+
+/// A record that is accepted, of any family.
+fn any_record(random: &mut Random) -> Record {
+    loop {
+        let (_, build) = random.pick(generate::FAMILIES);
+        if let Ok(record) = record::read(&build(random), MOST_EVENTS) {
+            return record;
+        }
+    }
+}
+
+fn plain(random: &mut Random) -> Vec<u8> {
+    canonical(&any_record(random))
+}
+
+fn dressed(random: &mut Random) -> Vec<u8> {
+    let record = small_record(random);
+    dress(&record, random)
+}
+
+fn dressed_long(random: &mut Random) -> Vec<u8> {
+    let record = any_record(random);
+    dress(&record, random)
+}
+
+/// How often, of 8 times, a text has each thing that changes nothing.
+struct Dress {
+    skipped: u32,
+    comment: u32,
+    blanks: u32,
+    zeros: u32,
+    upper: u32,
+    carriage_return: u32,
+}
+
+fn choose_dress(random: &mut Random) -> Dress {
+    let often = [0, 0, 1, 4, 8];
+    Dress {
+        skipped: random.pick(&[0, 0, 1, 4]),
+        comment: random.pick(&often),
+        blanks: random.pick(&often),
+        zeros: random.pick(&often),
+        upper: random.pick(&often),
+        carriage_return: random.pick(&often),
+    }
+}
+
+/// A text of the record, with comments, skipped lines, blanks, zeros and the like.
+pub fn dress(record: &Record, random: &mut Random) -> Vec<u8> {
+    let dress = choose_dress(random);
+    let mut text = Vec::new();
+    put_skipped(&mut text, &dress, random);
+    put_part(&mut text, &record.sources.to_string(), 3, &dress, random);
+    put_end(&mut text, &dress, random);
+    for event in &record.events {
+        put_skipped(&mut text, &dress, random);
+        put_part(&mut text, &format!("{:x}", event.head), 8, &dress, random);
+        text.push(b':');
+        put_part(&mut text, &format!("{:x}", event.value), 8, &dress, random);
+        put_end(&mut text, &dress, random);
+    }
+    put_skipped(&mut text, &dress, random);
+    if random.chance(1, 3) {
+        // No final line feed.
+        text.pop();
+    }
+    text
+}
+
+fn put_skipped(text: &mut Vec<u8>, dress: &Dress, random: &mut Random) {
+    while random.chance(dress.skipped, 8) {
+        put_blanks(text, dress, random);
+        put_end(text, dress, random);
+    }
+}
+
+fn put_blanks(text: &mut Vec<u8>, dress: &Dress, random: &mut Random) {
+    if random.chance(dress.blanks, 8) {
+        for _ in 0..random.between(1, 4) {
+            text.push(random.pick(b" \t"));
+        }
+    }
+}
+
+fn put_part(text: &mut Vec<u8>, digits: &str, most: usize, dress: &Dress, random: &mut Random) {
+    put_blanks(text, dress, random);
+    if random.chance(dress.zeros, 8) {
+        let zeros = random.between(0, (most - digits.len()) as u32) as usize;
+        text.resize(text.len() + zeros, b'0');
+    }
+    for digit in digits.bytes() {
+        text.push(if random.chance(dress.upper, 8) {
+            digit.to_ascii_uppercase()
+        } else {
+            digit
+        });
+    }
+    put_blanks(text, dress, random);
+}
+
+/// The end of a line: a comment or none, a carriage return or none.
+fn put_end(text: &mut Vec<u8>, dress: &Dress, random: &mut Random) {
+    if random.chance(dress.comment, 8) {
+        put_comment(text, random.below(30) as usize, random);
+    }
+    if random.chance(dress.carriage_return, 8) {
+        text.push(b'\r');
+    }
+    text.push(b'\n');
+}
+
+/// A comment of any bytes but a line feed.
+fn put_comment(text: &mut Vec<u8>, size: usize, random: &mut Random) {
+    text.push(b'#');
+    let all = random.coin();
+    for _ in 0..size {
+        let byte = if all {
+            random.word() as u8
+        } else {
+            random.pick(b"#: \t\r0123456789abcdef")
+        };
+        text.push(if byte == b'\n' { b'#' } else { byte });
+    }
+}
+
+// Damaged texts.
+
+/// A good text of some events, plain or dressed.
+fn sound(random: &mut Random) -> Vec<u8> {
+    let record = with_events(random);
+    if random.coin() {
+        canonical(&record)
+    } else {
+        dress(&record, random)
+    }
+}
+
+/// A place of a byte, often in the first line or beside a colon or a line feed.
+fn a_place(text: &[u8], random: &mut Random) -> usize {
+    let last = text.len() as u32 - 1;
+    let from = random.below(last + 1) as usize;
+    match random.below(4) {
+        0 => random.between(0, last.min(4)) as usize,
+        1 => next(text, from, b":"),
+        2 => next(text, from, b"\n"),
+        _ => from,
+    }
+}
+
+/// The next place, from `from` on, of one of the bytes; else the last place.
+fn next(text: &[u8], from: usize, bytes: &[u8]) -> usize {
+    let found = text[from..].iter().position(|byte| bytes.contains(byte));
+    found.map_or(text.len() - 1, |more| from + more)
+}
+
+fn a_byte(random: &mut Random) -> u8 {
+    match random.below(3) {
+        0 => random.word() as u8,
+        1 => random.pick(b"0123456789abcdefABCDEF"),
+        _ => random.pick(b"\r\n#: \tgGxX-+,.;/@`_\0\x0B\x0C\x7F\x85\xA0\xFF"),
+    }
+}
+
+fn insert(text: &mut Vec<u8>, place: usize, bytes: &[u8]) {
+    text.splice(place..place, bytes.iter().copied());
+}
+
+fn byte_replaced(random: &mut Random) -> Vec<u8> {
+    let mut text = sound(random);
+    let place = a_place(&text, random);
+    text[place] = a_byte(random);
+    text
+}
+
+fn byte_inserted(random: &mut Random) -> Vec<u8> {
+    let mut text = sound(random);
+    let place = a_place(&text, random) + random.below(2) as usize;
+    text.insert(place, a_byte(random));
+    text
+}
+
+fn byte_removed(random: &mut Random) -> Vec<u8> {
+    let mut text = sound(random);
+    let place = a_place(&text, random);
+    text.remove(place);
+    text
+}
+
+/// One or more carriage returns, most of them beside a line feed.
+fn carriage_returns(random: &mut Random) -> Vec<u8> {
+    let returns: [&[u8]; 4] = [b"\r", b"\r\r", b"\r#", b"\r "];
+    let mut text = sound(random);
+    for _ in 0..random.between(1, 3) {
+        let from = random.below(text.len() as u32) as usize;
+        let feed = next(&text, from, b"\n");
+        let place = match random.below(4) {
+            0 | 1 => feed,
+            2 => feed + 1,
+            _ => from,
+        };
+        insert(&mut text, place, random.pick(&returns));
+    }
+    text
+}
+
+/// A comment where there was none, often in the middle of a part.
+fn stray_comments(random: &mut Random) -> Vec<u8> {
+    let mut text = sound(random);
+    for _ in 0..random.between(1, 2) {
+        let place = a_place(&text, random) + random.below(2) as usize;
+        text.insert(place, b'#');
+    }
+    text
+}
+
+fn colons(random: &mut Random) -> Vec<u8> {
+    let mut text = sound(random);
+    let from = random.below(text.len() as u32) as usize;
+    let colon = next(&text, from, b":");
+    match random.below(6) {
+        0 | 1 => text.insert(colon, b':'),
+        2 => {
+            text.remove(colon);
+        }
+        3 => text[colon] = random.pick(b";.= \t,"),
+        4 => insert(&mut text, colon, b": "),
+        _ => text.insert(from, b':'),
+    }
+    text
+}
+
+/// Too many digits or none, signs, prefixes, and the bytes just beside the digits.
+fn digits(random: &mut Random) -> Vec<u8> {
+    let mut record = with_events(random);
+    let place = random.below(record.events.len() as u32) as usize;
+    let event = &mut record.events[place];
+    if random.coin() {
+        event.value = random.word() >> random.below(32);
+    }
+    let (head, value) = (event.head, event.value);
+    let junk = random.pick(&["/", ":", "@", "G", "`", "g", "-", "+", "0x", "_", ".", "٣"]);
+    let bad = match random.below(14) {
+        0 | 1 => format!("{head:09x}:{value:x}"),
+        2 => format!("f{head:08x}:{value:x}"),
+        3 | 4 => format!("{head:08x}:{value:09x}"),
+        5 => format!("{head:08x}:f{value:08x}"),
+        6 => format!(":{value:x}"),
+        7 => format!("{head:08x}:"),
+        8 => ":".to_string(),
+        9 => format!("{junk}{head:x}:{value:x}"),
+        10 => format!("{head:08x}:{junk}{value:x}"),
+        11 => format!("{head:08x}:{value:x}{junk}"),
+        12 => format!("{head:04x} 0:{value:x}"),
+        _ => format!("{head:08x}:{value:08x}"),
+    };
+    let sources = record.sources;
+    let first = match random.below(20) {
+        0 => format!("{sources:04}"),
+        1 => format!("{junk}{sources}"),
+        2 => format!("{sources}{junk}"),
+        3 => format!("{sources:x}"),
+        4 => format!("{sources} {sources}"),
+        _ => format!("{sources:03}"),
+    };
+    let mut text = first + "\n";
+    for (index, event) in record.events.iter().enumerate() {
+        if index == place {
+            text += &bad;
+        } else {
+            text += &event.to_string();
+        }
+        text.push('\n');
+    }
+    text.into_bytes()
+}
+
+/// Other white space, a NUL, bytes outside ASCII, a byte order mark.
+fn foreign_bytes(random: &mut Random) -> Vec<u8> {
+    let foreign: [&[u8]; 12] = [
+        b"\0",
+        b"\x0B",
+        b"\x0C",
+        b"\x1A",
+        b"\x7F",
+        b"\x80",
+        b"\xFF",
+        b"\xA0",
+        b"\xC2\xA0",
+        b"\xE2\x80\xA8",
+        b"\xEF\xBC\x91",
+        b"\xEF\xBB\xBF",
+    ];
+    let mut text = sound(random);
+    let bytes = random.pick(&foreign);
+    let place = match random.below(4) {
+        0 => 0,
+        1 => text.len(),
+        _ => a_place(&text, random),
+    };
+    insert(&mut text, place, bytes);
+    text
+}
+
+/// N twice, late or missing; lines swapped, doubled or joined.
+fn lines_moved(random: &mut Random) -> Vec<u8> {
+    let text = sound(random);
+    let mut lines: Vec<&[u8]> = text.split_inclusive(|&byte| byte == b'\n').collect();
+    let place = random.below(lines.len() as u32) as usize;
+    match random.below(5) {
+        0 => {
+            lines.remove(0);
+        }
+        1 => lines.insert(place, lines[0]),
+        2 => lines.swap(0, place),
+        3 => lines.insert(place, lines[place]),
+        _ => lines[place] = lines[place].strip_suffix(b"\n").unwrap_or(lines[place]),
+    }
+    lines.concat()
+}
+
+/// The end of the last line in all its forms.
+fn last_line(random: &mut Random) -> Vec<u8> {
+    let mut record = small_record(random);
+    if random.chance(1, 3) {
+        record.events.clear();
+    }
+    let mut text = canonical(&record);
+    text.pop();
+    let ends: [&[u8]; 16] = [
+        b"", b"\r", b"\n", b"\r\n", b"\r\r", b"\r\r\n", b"\n\r", b"\n\r\r", b"\n\n", b"\n\n\r",
+        b" ", b" \r", b"\r ", b"#", b"#\r\r", b"\r#",
+    ];
+    text.extend(random.pick(&ends));
+    text
+}
+
+fn wrong_sources(random: &mut Random) -> Vec<u8> {
+    let mut record = small_record(random);
+    record.sources = random.pick(&[0, 1, 2, 255, 256, 257, 999, 1000]);
+    dress_or_not(&record, random)
+}
+
+/// A record with faults of its own as a text; dressed only where N has no more than three digits.
+fn dress_or_not(record: &Record, random: &mut Random) -> Vec<u8> {
+    if record.sources > 999 || random.coin() {
+        canonical(record)
+    } else {
+        dress(record, random)
+    }
+}
+
+fn spoil_kind(record: &mut Record, random: &mut Random) {
+    let place = random.below(record.events.len() as u32) as usize;
+    let event = &mut record.events[place];
+    event.head = bad_kind(random) << 16 | event.address();
+}
+
+fn spoil_unused(record: &mut Record, random: &mut Random) {
+    let place = random.below(record.events.len() as u32) as usize;
+    let event = &mut record.events[place];
+    if random.coin() {
+        *event = Event::new(random.below(10), 0, 0);
+    }
+    use_unused(event, random);
+}
+
+fn unknown_kind(random: &mut Random) -> Vec<u8> {
+    let mut record = with_events(random);
+    for _ in 0..random.between(1, 2) {
+        spoil_kind(&mut record, random);
+    }
+    dress_or_not(&record, random)
+}
+
+fn unused_parts(random: &mut Random) -> Vec<u8> {
+    let mut record = with_events(random);
+    // Of an unknown kind and a used unused part the earlier decides.
+    if random.chance(1, 3) {
+        spoil_kind(&mut record, random);
+    }
+    for _ in 0..random.between(1, 3) {
+        spoil_unused(&mut record, random);
+    }
+    dress_or_not(&record, random)
+}
+
+/// Faults of the record and bad lines in one text.
+fn several_faults(random: &mut Random) -> Vec<u8> {
+    let mut record = with_events(random);
+    if random.coin() {
+        spoil_kind(&mut record, random);
+    }
+    if random.coin() {
+        spoil_unused(&mut record, random);
+    }
+    if random.chance(1, 3) {
+        record.sources = random.pick(&[0, 1, 256, 999]);
+    }
+    let mut text = dress_or_not(&record, random);
+    if random.chance(1, 3) {
+        let place = a_place(&text, random);
+        text[place] = a_byte(random);
+    }
+    text
+}
+
+/// Lines that are all skipped.
+fn nothing_said(random: &mut Random) -> Vec<u8> {
+    let dress = choose_dress(random);
+    let mut text = Vec::new();
+    for _ in 0..random.between(1, 12) {
+        put_blanks(&mut text, &dress, random);
+        put_end(&mut text, &dress, random);
+    }
+    if random.chance(1, 3) {
+        text.pop();
+    }
+    text
+}
+
+fn empty(random: &mut Random) -> Vec<u8> {
+    let texts: [&[u8]; 12] = [
+        b"", b"", b"\n", b"\r\n", b"\r", b"\r\r", b"#", b" ", b"\t\n", b":", b"\n\n", b"\0",
+    ];
+    random.pick(&texts).to_vec()
+}
+
+/// About as many events as a record holds.
+fn event_counts(random: &mut Random) -> Vec<u8> {
+    let count = random.pick(&[3999, 4000, 4000, 4001, 4002]);
+    let some = with_events(random);
+    let mut record = Record {
+        sources: some.sources,
+        events: some.events.iter().copied().cycle().take(count).collect(),
+    };
+    if random.chance(1, 10) {
+        record.sources = 1;
+    }
+    if random.chance(1, 10) {
+        spoil_kind(&mut record, random);
+    }
+    let mut text = dress_or_not(&record, random);
+    // One more line, which may be one too many whatever it holds.
+    if random.coin() {
+        if text.last() != Some(&b'\n') {
+            text.push(b'\n');
+        }
+        text.extend(random.pick::<&[u8]>(&[b"?", b"4:\n", b"#\n", b" \r\n", b"0:0", b"\r\r\n"]));
+    }
+    if random.chance(1, 10) {
+        let place = a_place(&text, random);
+        text[place] = a_byte(random);
+    }
+    text
+}
+
+/// Texts about as long as a text may be.
+fn lengths(random: &mut Random) -> Vec<u8> {
+    let mut text = match random.below(8) {
+        0 => Vec::new(),
+        1 => byte_replaced(random),
+        2 => event_counts(random),
+        3 => unknown_kind(random),
+        _ => sound(random),
+    };
+    let size = match random.below(4) {
+        0 => MOST_BYTES - 1,
+        1 => MOST_BYTES,
+        2 => MOST_BYTES + 1,
+        _ => MOST_BYTES + random.between(2, 300_000) as usize,
+    };
+    let missing = size.saturating_sub(text.len());
+    let padding = pad(missing, random);
+    if random.coin() {
+        insert(&mut text, 0, &padding);
+    } else {
+        if random.coin() && text.last() == Some(&b'\n') {
+            // The padding goes on with the last line.
+            text.pop();
+            text.push(b'\t');
+        }
+        text.extend(padding);
+    }
+    text
+}
+
+/// So many bytes of lines that are skipped; the last may have no line feed.
+fn pad(size: usize, random: &mut Random) -> Vec<u8> {
+    let line: &[u8] = match random.below(8) {
+        0 => b"\n",
+        1 => b"\r\n",
+        2 => b" ",
+        3 => b" \t \t",
+        4 => b"#",
+        5 => b"# 00050000:0 \r\xFF\0",
+        6 => b"# a comment\n",
+        _ => b"   \t # a comment with a carriage return\r\n\n",
+    };
+    let mut padding: Vec<u8> = line.iter().copied().cycle().take(size).collect();
+    if random.chance(3, 4) {
+        if let Some(last) = padding.last_mut() {
+            *last = b'\n';
+        }
+    }
+    padding
+}
+
+/// Random bytes, or bits of lines in any order.
+fn noise(random: &mut Random) -> Vec<u8> {
+    let bits: [&[u8]; 16] = [
+        b"0", b"5", b"F", b":", b"0:0", b"50000:0", b"\n", b"\n", b"\n", b"\r\n", b"\r", b" ",
+        b"\t", b"#", b"#a#\n", b"4",
+    ];
+    let mut text = random.pick::<&[u8]>(&[b"", b"4\n", b"4\r\n"]).to_vec();
+    let bytes = random.chance(1, 4);
+    for _ in 0..random.below(24) {
+        if bytes {
+            text.push(random.word() as u8);
+        } else {
+            text.extend(random.pick(&bits));
+        }
+    }
+    text
+}
