@@ -1,4 +1,4 @@
-// The text of a record: N in decimal in the first row, then a row head:value in hexadecimal for each event. The record that a text makes.
+// The text of a record. A row is a line that says something: the first is N in decimal, each further one head:value in hexadecimal, an event. The record that a text makes.
 
 ghost use mathlib.Core.Path.{_≡_};
 ghost use mathlib.Core.Bool.{true, false, cond};
