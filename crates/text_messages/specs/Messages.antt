@@ -6,16 +6,17 @@ use lib.Dec.{eqb}
 use Rattle.digits.specs.Ascii.{ascii}
 use Rattle.digits.specs.Digits.{decimal, within}
 use Rattle.refusals.specs.Words.{wordsOf, wordsSize}
+use Rattle.text_reader.specs.Reading.{whyNotSources, whyNotEvent, whyTooMany}
 
 -- Behind a place: a colon, the words, and the end of the line.
 abbrev pub saying : List ℕ → List ℕ
 saying words = ascii ": " ++ words ++ ascii "\n"
 
--- Why a line is bad, by text_reader's numbers: 1, it is not N; 2, it is no event; 3, it is that of an event too many, as refusal 3 says.
+-- Why a line is bad, by the reader's number: it is not N; it is no event; or it is that of an event too many, as refusal 3 says.
 abbrev pub whyWords : ℕ → List ℕ
 whyWords why =
-    cond (eqb why 1) (ascii "not N, one to three decimal digits")
-    (cond (eqb why 2) (ascii "not HEAD:VALUE in hexadecimal")
+    cond (eqb why whyNotSources) (ascii "not N, one to three decimal digits")
+    (cond (eqb why whyNotEvent) (ascii "not HEAD:VALUE in hexadecimal")
     (wordsOf 3))
 
 -- The place of a bad line: `refused at line 3`.
@@ -26,9 +27,9 @@ atLine line = ascii "refused at line " ++ decimal line
 abbrev pub tooLong : List ℕ
 tooLong = ascii "refused: the text has more than 1,048,576 bytes\n"
 
--- A text that is bad: why, and the line. Any other number than 1 to 3 is that of a text that is too long.
+-- A text that is bad: why, and the line. Any number but those of a bad line is that of a text that is too long.
 abbrev pub badText : ℕ → ℕ → List ℕ
-badText why line = cond (within 1 3 why) (atLine line ++ saying (whyWords why)) tooLong
+badText why line = cond (within whyNotSources whyTooMany why) (atLine line ++ saying (whyWords why)) tooLong
 
 -- A refusal and its place: `refused 6 at 1`.
 abbrev pub refusedAt : ℕ → ℕ → List ℕ

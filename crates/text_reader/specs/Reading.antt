@@ -55,21 +55,33 @@ fault reason number = record { why = reason; line = number }
 abbrev pub noFault : Fault
 noFault = fault 0 0
 
--- 1: the line is not N, one to three decimal digits.
+-- Why, as a number. 1: the line is not N, one to three decimal digits.
+abbrev pub whyNotSources : ℕ
+whyNotSources = 1
+
 abbrev pub notSources : ℕ → Fault
-notSources = fault 1
+notSources = fault whyNotSources
 
 -- 2: the line is not HEAD:VALUE in hexadecimal.
+abbrev pub whyNotEvent : ℕ
+whyNotEvent = 2
+
 abbrev pub notEvent : ℕ → Fault
-notEvent = fault 2
+notEvent = fault whyNotEvent
 
 -- 3: the line is that of an event more than 4,000, whatever it says.
+abbrev pub whyTooMany : ℕ
+whyTooMany = 3
+
 abbrev pub tooMany : ℕ → Fault
-tooMany = fault 3
+tooMany = fault whyTooMany
 
 -- 4: the text has more than 1,048,576 bytes. That is of no line.
+abbrev pub whyTooLong : ℕ
+whyTooLong = 4
+
 abbrev pub tooLong : Fault
-tooLong = fault 4 0
+tooLong = fault whyTooLong 0
 
 abbrev pub textSize : ℕ
 textSize = 2 ^ 20
