@@ -1,4 +1,4 @@
--- A text of plain lines, without blanks, comments and carriage returns: what its lines say, its rows, and that it has no fault.
+-- A text of plain lines, without blanks, comments and carriage returns: its numbers, what its lines say, its rows, and that it has no fault.
 use mathlib.Core.Path.{_≡_, refl, sym, ap, _∙_}
 use mathlib.Core.Bool.{Bool, true, false, cond, _||_}
 use Prim.Native.Nat.{ℕ, zero, suc, _-_, _≤_, _<_}
@@ -8,12 +8,23 @@ use borrow.Author.Tests.{lt-ltb, le-leb, lt-leb, ne-eqb}
 use lib.Dec.{eqb, lit<}
 use lib.ListN.{length, getD, take}
 use lib.Seq.{take-length}
+use Rattle.digits.proofs.Meaning.{digit-of-glyph}
+use Rattle.digits.proofs.Signs.{Signs, none, more}
 use Rattle.record.specs.Record.{mostEvents}
 use Rattle.text_reader.specs.Lines.{before, linesIn}
 use Rattle.text_reader.specs.Rows.{carriageReturn, lastOf, withoutReturn, commentSign, saidIn, isBlank, withoutLead, keptOf, trimmed, saysAny, Row, rowsFrom, rowsOf}
+use Rattle.text_reader.specs.Numbers.{allDigits}
 use Rattle.text_reader.specs.Reading.{isSources, isEvent, noFault, eventsFault, textSize, textFault}
 use Rattle.text_reader.proofs.Sentences.{Free, empty, other}
 use Rattle.text_reader.proofs.Made.{by-rows}
+
+-- The signs of digits are digits.
+pub signs-digits : (base : ℕ) {signs : List ℕ} → base ≤ 16 → Signs base signs → allDigits base signs ≡ true
+unfolding allDigits
+signs-digits base h none = refl
+signs-digits base h (more d e l s) =
+    let d′ : d < 16 = omega arith in
+    rw (e, digit-of-glyph d d′, lt-ltb d base l) (signs-digits base h s)
 
 -- A part with no blank and no tab in it.
 pub record Solid (part : List ℕ) : Type 0 where

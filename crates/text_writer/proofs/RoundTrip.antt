@@ -6,13 +6,13 @@ use Prim.Native.Nat.{ℕ, suc, _+_, _^_, _≤_, _<_}
 use native.Mathlib.Nat.{lt-of-lt-of-le}
 use native.Mathlib.Omega.{arith}
 use mathlib.Core.List.{List, [], _∷_, _++_, map, append-assoc}
-use borrow.Author.Tests.{lt-ltb, le-leb, ne-eqb, ltb-true, ltb-false}
+use borrow.Author.Tests.{le-leb, ltb-true, ltb-false}
 use lib.Dec.{ltb, lit<, lit≤}
 use lib.ListN.{length, replicate, length-append, length-replicate}
 use Rattle.buffers.specs.Filled.{filled}
 use Rattle.digits.specs.Digits.{glyph, digitsTo, decimal, hexadecimal, numberOf}
 use Rattle.digits.proofs.Digits.{digits-most}
-use Rattle.digits.proofs.Meaning.{digits-length, digits-number, digit-of-glyph}
+use Rattle.digits.proofs.Meaning.{digits-length, digits-number}
 use Rattle.digits.proofs.Signs.{Signs, none, more, digits-signs, digits-some}
 use Rattle.record.specs.Record.{board, countOf, sourcesOf, headsOf, valuesOf, recordSize, mostEvents}
 use Rattle.record.specs.Questions.{boardVerdict}
@@ -23,13 +23,13 @@ use Rattle.record.proofs.Questions.{Readable, readable}
 use Rattle.record_round_trip.proofs.RoundTrip.{heads-count, writes-back}
 use Rattle.record.proofs.Parts.{heads-below, values-below}
 use Rattle.text_reader.specs.Lines.{lineFeed, colon, before, linesIn}
-use Rattle.text_reader.specs.Numbers.{allDigits, isNumber}
+use Rattle.text_reader.specs.Numbers.{isNumber}
 use Rattle.text_reader.specs.Rows.{trimmed, Row, rowsFrom, rowsOf}
 use Rattle.text_reader.specs.Reading.{headPart, valuePart, isEvent, headIn, valueIn, noFault, eventsFault, textSize, textFault, sourcesOfText, headsOfText, valuesOfText}
 use Rattle.text_reader.specs.Answers.{written, writerAnswer, toRecordAnswer, toRecordBytes}
 use Rattle.text_reader.proofs.Sentences.{Free, empty, other, free-append, before-free, after-free}
 use Rattle.text_reader.proofs.Marks.{lines-first}
-use Rattle.text_reader.proofs.Plain.{Solid, Plain, trimmed-solid, row-plain, no-more-rows, event-past, no-more-events, text-well}
+use Rattle.text_reader.proofs.Plain.{signs-digits, Solid, Plain, trimmed-solid, row-plain, no-more-rows, event-past, no-more-events, text-well}
 use Rattle.text_writer.specs.Writing.{ended, sourcesText, eventText, eventsText, listingOf, textOf}
 use Rattle.text_writer.specs.RoundTrip.{ComesBack}
 use Rattle.text_writer.proofs.Writing.{line-some, sources-some, listing-length}
@@ -47,14 +47,7 @@ glyph-no-mark mark d m h = by-case (ltb d 10) refl m
     by-case false e (inl l) = rw e (λ z. omega arith)
     by-case false e (inr c) = let ten : 10 ≤ d = ltb-false d 10 e in rw e (λ z. omega arith)
 
--- The signs of digits are digits, and no marks.
-signs-digits : (base : ℕ) {signs : List ℕ} → base ≤ 16 → Signs base signs → allDigits base signs ≡ true
-unfolding allDigits
-signs-digits base h none = refl
-signs-digits base h (more d e l s) =
-    let d′ : d < 16 = omega arith in
-    rw (e, digit-of-glyph d d′, lt-ltb d base l) (signs-digits base h s)
-
+-- The signs of digits are no marks.
 signs-free : (mark base : ℕ) {signs : List ℕ} → Mark mark → base ≤ 16 → Signs base signs → Free mark signs
 signs-free mark base m h none = empty
 signs-free mark base m h (more d e l s) =
