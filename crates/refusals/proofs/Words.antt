@@ -3,8 +3,8 @@ use Prim.Native.Nat.{ℕ, _≤_}
 use Prim.Native.String.{String}
 use native.Mathlib.Omega.{arith}
 use borrow.Author.Tests.{leb-true, ne-eqb}
-use mathlib.Core.Bool.{Bool, true, false, _&&_, cond}
-use mathlib.Core.Path.{_≡_, refl}
+use mathlib.Core.Bool.{Bool, true, false, _&&_, cond, true≢false}
+use mathlib.Core.Path.{_≡_, refl, sym}
 use mathlib.Core.List.{List, [], _∷_, _++_, append-nil}
 use lib.ListN.{length}
 use lib.Dec.{leb, eqb}
@@ -14,10 +14,7 @@ use Rattle.refusals.specs.Words.{recordRows, eventRows, wordsIn, wordsOf
 -- Both of two tests.
 both : (a b : Bool) → a && b ≡ true → (a ≡ true) × (b ≡ true)
 both true b e = (refl, e)
-both false b e = (e, absurd (never e))
-  where
-    never : false ≡ true → ⊥
-    never e = let z : _≡_ {A = ℕ} 0 1 = cc in omega arith
+both false b e = absurd (true≢false (sym e))
 
 -- P, and the number of no row is n.
 abbrev pub NoneOf : ℕ → Type 0 → List (ℕ × String) → Type 0

@@ -11,24 +11,11 @@ use Rattle.buffers.specs.Filled.{filled, HasFirst}
 use Rattle.buffers.proofs.Stores.{sets-filled}
 use Rattle.digits.specs.Ascii.{ascii}
 use Rattle.digits.specs.Digits.{decimal}
-use Rattle.digits.specs.Put.{putAt, placeAfter}
 use Rattle.digits.proofs.Digits.{digits-most}
-use Rattle.digits.proofs.Pieces.{Stands, put, put-behind, room-first}
+use Rattle.digits.proofs.Pieces.{Stands}
 use Rattle.refusals.specs.Words.{wordsOf, wordsSize}
 use Rattle.refusals.proofs.Words.{words-most}
 use Rattle.text_messages.specs.Messages.{saying, whyWords, atLine, tooLong, refused, refusedIn, messageSize}
-
--- Two pieces in a row.
-pub two-pieces : (buffer : List ℕ) (at : ℕ) (s t : List ℕ) {d₁ d₂ : List ℕ} {a₁ a₂ : ℕ} → at + length (s ++ t) ≤ length buffer
-    → a₁ ≡ placeAfter buffer at s → d₁ ≡ putAt buffer at s → a₂ ≡ placeAfter d₁ a₁ t → d₂ ≡ putAt d₁ a₁ t → Stands buffer at (s ++ t) a₂ d₂
-two-pieces buffer at s t h e₁ f₁ e₂ f₂ = put-behind buffer at s t h (put buffer at s (room-first (length buffer) at s t h) e₁ f₁) e₂ f₂
-
--- Three pieces in a row.
-pub three : (buffer : List ℕ) (at : ℕ) (s t u : List ℕ) {d₁ d₂ d₃ : List ℕ} {a₁ a₂ a₃ : ℕ} → at + length (s ++ t ++ u) ≤ length buffer
-    → a₁ ≡ placeAfter buffer at s → d₁ ≡ putAt buffer at s → a₂ ≡ placeAfter d₁ a₁ t → d₂ ≡ putAt d₁ a₁ t
-    → a₃ ≡ placeAfter d₂ a₂ u → d₃ ≡ putAt d₂ a₂ u → Stands buffer at (s ++ t ++ u) a₃ d₃
-three buffer at s t u h e₁ f₁ e₂ f₂ e₃ f₃ =
-    put-behind buffer at (s ++ t) u h (two-pieces buffer at s t (room-first (length buffer) at (s ++ t) u h) e₁ f₁ e₂ f₂) e₃ f₃
 
 number-length : (n : ℕ) → length (decimal n) ≤ 20
 number-length n = digits-most 10 1 20 n

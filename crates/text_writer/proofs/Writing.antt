@@ -14,7 +14,7 @@ use Rattle.digits.specs.Put.{putAt, placeAfter}
 use Rattle.digits.proofs.Digits.{digits-most}
 use Rattle.digits.proofs.Meaning.{digits-length}
 use Rattle.digits.proofs.Signs.{digits-some}
-use Rattle.digits.proofs.Pieces.{Stands, two, four, put, put-behind, room-first}
+use Rattle.digits.proofs.Pieces.{Stands, two, two-pieces, four}
 use borrow.Author.Tests.{eq-eqb, ne-eqb}
 use Rattle.record.specs.declared.ReadAnswer.{ReadAnswer}
 use Rattle.record.specs.declared.ReadAnswer.the-variants as reading
@@ -119,8 +119,7 @@ module _ (text : List ℕ) (sources : ℕ) (heads values : List ℕ) (small : so
   put-first : Stands text 0 first b d₂
   put-first =
       let room : 0 + length first ≤ length text = omega (arith, sources-length sources small) in
-      put-behind text 0 (decimal sources) (lineFeed ∷ []) room
-      (put text 0 (decimal sources) (room-first (length text) 0 (decimal sources) (lineFeed ∷ []) room) ea e₁) eb e₂
+      two-pieces text 0 (decimal sources) (lineFeed ∷ []) room ea e₁ eb e₂
 
   pub first-put : b + 18 * length heads ≤ length d₂
   first-put =

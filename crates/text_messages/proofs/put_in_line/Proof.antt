@@ -1,6 +1,6 @@
 use Rattle.digits.specs.Ascii.{ascii}
 use Rattle.digits.specs.Digits.{decimal}
-use Rattle.text_messages.proofs.Messages.{three}
+use Rattle.digits.proofs.Pieces.{three}
 use borrow.Author.Needs.{needs}
 use Rattle.text_messages.proofs.put_in_line.Statement.{statement}
 use Rattle.text_messages.proofs.put_in_line.Tie as tie

@@ -1,6 +1,6 @@
 use Rattle.digits.specs.Ascii.{ascii}
 use Rattle.digits.specs.Digits.{decimal}
-use Rattle.text_messages.proofs.Messages.{two-pieces}
+use Rattle.digits.proofs.Pieces.{two-pieces}
 use borrow.Author.Needs.{needs}
 use Rattle.text_messages.proofs.put_line.Statement.{statement}
 use Rattle.text_messages.proofs.put_line.Tie as tie

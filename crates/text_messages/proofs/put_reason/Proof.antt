@@ -1,6 +1,6 @@
 use Rattle.digits.specs.Ascii.{ascii}
 use Rattle.text_messages.specs.Messages.{whyWords}
-use Rattle.text_messages.proofs.Messages.{three}
+use Rattle.digits.proofs.Pieces.{three}
 use borrow.Author.Needs.{needs}
 use Rattle.text_messages.proofs.put_reason.Statement.{statement}
 use Rattle.text_messages.proofs.put_reason.Tie as tie
