@@ -1,9 +1,24 @@
 //! Runs another player on generated records and compares the prints.
 
+use crate::event::KINDS;
 use crate::generate::{generate, FAMILIES};
 use crate::player::{self, Tally};
 use crate::program::{shown, ways, Program};
 use crate::record::{self, MOST_EVENTS};
+
+const NAMES: [&str; KINDS as usize] = [
+    "sample",
+    "load",
+    "store",
+    "CSR read",
+    "CSR write",
+    "take",
+    "open",
+    "chain",
+    "return",
+    "set mask",
+    "clock",
+];
 
 /// What is compared: a program, and how many inputs of which seed it gets.
 pub struct Comparison<'a> {
@@ -149,9 +164,7 @@ impl Summary {
                 tally.events, tally.deepest
             ));
         }
-        let kinds = ["sample", "load", "store", "CSR read", "CSR write"];
-        let service = ["take", "open", "chain", "return", "set mask"];
-        for (kind, name) in kinds.iter().chain(&service).enumerate() {
+        for (kind, name) in NAMES.iter().enumerate() {
             lines.push(format!(
                 "kind {kind} ({name}): accepted {}",
                 self.all.accepted[kind]

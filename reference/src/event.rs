@@ -19,6 +19,9 @@ pub const OPEN: u32 = 6;
 pub const CHAIN: u32 = 7;
 pub const RETURN: u32 = 8;
 pub const SET_MASK: u32 = 9;
+pub const CLOCK: u32 = 10;
+/// The kinds are the numbers below this one.
+pub const KINDS: u32 = 11;
 
 /// An event of a known kind whose unused parts are 0.
 #[derive(Clone, Copy, Debug, PartialEq, Eq)]
@@ -33,6 +36,7 @@ pub enum Action {
     Chain,
     Return,
     SetMask { value: u32 },
+    Clock,
 }
 
 /// Head and value in hexadecimal, the head in eight digits.
@@ -88,6 +92,7 @@ impl Event {
             CHAIN => neither(Action::Chain),
             RETURN => neither(Action::Return),
             SET_MASK => only_value(Action::SetMask { value }),
+            CLOCK => neither(Action::Clock),
             _ => Err(6),
         }
     }

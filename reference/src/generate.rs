@@ -5,6 +5,7 @@ use crate::machine::*;
 use crate::random::Random;
 use crate::record::{lay_out, Record, MOST_EVENTS};
 use crate::script::{choose_count, Script, Weights, EVEN};
+use crate::timer::*;
 
 pub struct Generated {
     pub family: &'static str,
@@ -37,6 +38,7 @@ pub const FAMILIES: &[Family] = &[
     ("winners", winners),
     ("sources beyond N", beyond),
     ("samples", samples),
+    ("timers", timers),
     ("truncated", truncated),
     ("extended", extended),
     ("wrong count", wrong_count),
@@ -114,6 +116,7 @@ fn some_weights(random: &mut Random) -> Weights {
         csr_read: random.below(12),
         csr_write: random.below(16),
         service: random.between(1, 50),
+        timer: random.below(12),
         blind: random.below(6),
         boundary: random.below(6),
         refused: random.below(6),
@@ -146,7 +149,7 @@ fn long(random: &mut Random) -> Vec<u8> {
 fn plain_random(random: &mut Random) -> Vec<u8> {
     let mut script = Script::new(random);
     for _ in 0..random.between(1, 300) {
-        let kind = random.below(10);
+        let kind = random.below(KINDS);
         let word = random.word();
         let address = random.below(0x10000);
         let value = match kind {
@@ -159,7 +162,7 @@ fn plain_random(random: &mut Random) -> Vec<u8> {
             SAMPLE if random.chance(7, 8) => address % 8,
             LOAD | STORE if random.chance(2, 3) => 0x1000 * random.below(6) + 4 * random.below(6),
             LOAD | STORE if random.chance(7, 8) => address & 0x7FFC,
-            CSR_READ | CSR_WRITE if random.chance(7, 8) => random.pick(&CSRS),
+            CSR_READ | CSR_WRITE if random.chance(7, 8) => script.a_csr(),
             SAMPLE..=CSR_WRITE => address,
             _ => 0,
         };
@@ -203,7 +206,7 @@ fn csr_addresses(random: &mut Random) -> Vec<u8> {
     for _ in 0..random.between(20, 200) {
         let address = script.boundary_csr();
         let value = random.word();
-        match random.below(6) {
+        match random.below(7) {
             0 => {
                 script.csr_read(address);
             }
@@ -213,6 +216,9 @@ fn csr_addresses(random: &mut Random) -> Vec<u8> {
             }
             3 => script.serve(),
             4 => script.provoke(),
+            5 => {
+                script.clock();
+            }
             _ => script.step(&EVEN),
         }
     }
@@ -236,7 +242,8 @@ fn question_order(random: &mut Random) -> Vec<u8> {
                 );
             }
             2 => {
-                script.csr_write(random.pick(&[0xFC8, 0x1FC8, 0xBCC, 0x1BCC]), value);
+                let csrs = [0xFC8, 0x1FC8, 0xBCC, 0x1BCC, 0x7D7, 0x7D8];
+                script.csr_write(random.pick(&csrs), value);
             }
             3 => {
                 // Mask 0 and margin at most 0, or only one of them.
@@ -278,7 +285,7 @@ fn rising_ranks(random: &mut Random) -> Vec<u8> {
 
 /// Tries what a handler must not do, or may do without effect on nesting.
 fn disturb(script: &mut Script, random: &mut Random) {
-    match random.below(12) {
+    match random.below(14) {
         0 => {
             script.open();
         }
@@ -313,6 +320,10 @@ fn disturb(script: &mut Script, random: &mut Random) {
                 script.set_rank(source, rank);
             }
         }
+        11 => {
+            script.clock();
+        }
+        12 => script.timer_step(),
         _ => script.pending_words(),
     }
 }
@@ -520,6 +531,7 @@ fn nesting_wandering(random: &mut Random) -> Vec<u8> {
         csr_read: 4,
         csr_write: 1,
         service: 80,
+        timer: 4,
         blind: 3,
         boundary: 0,
         refused: 2,
@@ -947,6 +959,157 @@ fn samples(random: &mut Random) -> Vec<u8> {
     finish(script)
 }
 
+/// Bounds, counters and controls at their edges, and clocks, alone and within handlers.
+fn timers(random: &mut Random) -> Vec<u8> {
+    let mut script = Script::new(random);
+    if random.coin() {
+        script.read_timers();
+    }
+    for _ in 0..random.between(2, 16) {
+        match random.below(8) {
+            0 => low_bound(&mut script, random),
+            1 => disabled_above_bound(&mut script, random),
+            2 => both_at_once(&mut script, random),
+            3 => greatest_counts(&mut script, random),
+            4 => timer_registers(&mut script, random),
+            5 => clocks_in_handlers(&mut script, random),
+            6 => script.wander(&EVEN, 10),
+            _ => {
+                for _ in 0..random.between(5, 20) {
+                    script.timer_step();
+                }
+            }
+        }
+        if random.coin() {
+            script.read_timers();
+        }
+    }
+    script.audit();
+    let mut record = script.record();
+    if random.chance(1, 6) {
+        spoil_clock(&mut record, random);
+    }
+    bytes_of(&record)
+}
+
+/// Gives one of the clocks an address or a value.
+fn spoil_clock(record: &mut Record, random: &mut Random) {
+    let clocks = record
+        .events
+        .iter_mut()
+        .filter(|event| event.kind() == CLOCK);
+    let mut clocks: Vec<&mut Event> = clocks.collect();
+    if !clocks.is_empty() {
+        let place = random.below(clocks.len() as u32) as usize;
+        use_unused(clocks[place], random);
+    }
+}
+
+/// A low bound, and clocks for two rounds and more.
+fn low_bound(script: &mut Script, random: &mut Random) {
+    let timer = random.below(2) as usize;
+    let bound = random.below(6);
+    script.set_bound(timer, bound);
+    if random.coin() {
+        script.set_counter(timer, random.below(bound + 3));
+    }
+    script.set_control(timer, random.below(8) | 1);
+    for _ in 0..2 * bound + 3 {
+        script.clock();
+        if random.coin() {
+            script.csr_read(MITCNT[timer]);
+        }
+    }
+}
+
+/// A disabled timer at or above its bound, or just below it, where it stays.
+fn disabled_above_bound(script: &mut Script, random: &mut Random) {
+    let timer = random.below(2) as usize;
+    let bound = script.a_bound();
+    script.set_control(timer, 2 * random.below(4));
+    script.set_bound(timer, bound);
+    let count = match random.below(6) {
+        0 => bound.saturating_sub(1),
+        1 => bound,
+        2 => u32::MAX,
+        _ => bound.saturating_add(random.between(1, 1000)),
+    };
+    script.set_counter(timer, count);
+    for _ in 0..random.between(1, 3) {
+        script.clock();
+        script.csr_read(MITCNT[timer]);
+    }
+}
+
+/// Both timers reach their bounds after the same number of clocks.
+fn both_at_once(script: &mut Script, random: &mut Random) {
+    let clocks = random.below(4);
+    for timer in 0..2 {
+        let bound = script.a_bound().max(clocks);
+        script.set_bound(timer, bound);
+        script.set_counter(timer, bound - clocks);
+        script.set_control(timer, random.below(8) | 1);
+    }
+    for _ in 0..=clocks {
+        script.clock();
+    }
+    script.read_timers();
+}
+
+/// Counters and bounds at the end of their range.
+fn greatest_counts(script: &mut Script, random: &mut Random) {
+    let timer = random.below(2) as usize;
+    script.set_bound(timer, u32::MAX - random.below(2));
+    script.set_counter(timer, u32::MAX - random.below(4));
+    script.set_control(timer, random.below(8) | u32::from(random.coin()));
+    for _ in 0..random.between(1, 5) {
+        script.clock();
+        script.csr_read(MITCNT[timer]);
+    }
+}
+
+/// Any word into any of the six, and what all of them hold then.
+fn timer_registers(script: &mut Script, random: &mut Random) {
+    for _ in 0..random.between(1, 4) {
+        script.csr_write(random.pick(&TIMER_CSRS), random.word());
+        script.read_timers();
+        if random.coin() {
+            script.clock();
+            script.read_timers();
+        }
+    }
+}
+
+/// Clocks between the takes, opens and returns of some handlers.
+fn clocks_in_handlers(script: &mut Script, random: &mut Random) {
+    if random.coin() {
+        for timer in 0..2 {
+            script.set_bound(timer, random.below(6));
+        }
+    }
+    for _ in 0..random.between(1, 6) {
+        script.set_mask(1);
+        script.provoke();
+        for kind in [TAKE, OPEN] {
+            script.event(kind, 0, 0);
+            for _ in 0..random.below(3) {
+                script.clock();
+            }
+        }
+    }
+    while !script.machine.handlers.is_empty() && !script.full() {
+        script.set_mask(0);
+        if random.chance(1, 3) {
+            script.chain();
+        }
+        script.clock();
+        script.give_back();
+        if random.chance(1, 8) {
+            break;
+        }
+    }
+}
+
 // Damaged records.
 
 pub(crate) fn small_record(random: &mut Random) -> Record {
@@ -1100,10 +1263,10 @@ fn too_long(random: &mut Random) -> Vec<u8> {
 
 pub(crate) fn bad_kind(random: &mut Random) -> u32 {
     match random.below(4) {
-        0 => random.pick(&[10, 11, 12, 15, 16, 0x100, 0x8000, 0xFFFF]),
-        1 => random.below(10) | 1 << random.between(4, 15),
-        2 => random.below(10) << 8 | 0x1000,
-        _ => random.between(10, 0xFFFF),
+        0 => random.pick(&[KINDS, KINDS + 1, 15, 16, 0x100, 0x8000, 0xFFFF]),
+        1 => random.below(KINDS) | 1 << random.between(4, 15),
+        2 => random.below(KINDS) << 8 | 0x1000,
+        _ => random.between(KINDS, 0xFFFF),
     }
 }
 
@@ -1111,7 +1274,7 @@ pub(crate) fn bad_kind(random: &mut Random) -> u32 {
 pub(crate) fn use_unused(event: &mut Event, random: &mut Random) {
     let bit = 1 << random.below(16);
     let kind = event.kind();
-    let unused_value = matches!(kind, LOAD | CSR_READ | TAKE | OPEN | CHAIN | RETURN);
+    let unused_value = matches!(kind, LOAD | CSR_READ | TAKE | OPEN | CHAIN | RETURN | CLOCK);
     let unused_address = kind >= TAKE;
     if unused_value && (!unused_address || random.coin()) {
         event.value |= bit << (16 * random.below(2));
@@ -1150,7 +1313,7 @@ fn unused_parts(random: &mut Random) -> Vec<u8> {
         let place = random.below(record.events.len() as u32) as usize;
         let event = &mut record.events[place];
         if random.coin() {
-            *event = Event::new(random.below(10), 0, 0);
+            *event = Event::new(random.below(KINDS), 0, 0);
         }
         use_unused(event, random);
     }
@@ -1162,7 +1325,7 @@ fn kind_and_unused(random: &mut Random) -> Vec<u8> {
     let mut record = with_events(random);
     for _ in 0..2 {
         let place = random.between(0, record.events.len() as u32) as usize;
-        let mut unused = Event::new(random.pick(&[1, 3, 5, 6, 7, 8, 9]), 0, 0);
+        let mut unused = Event::new(random.pick(&[1, 3, 5, 6, 7, 8, 9, 10]), 0, 0);
         use_unused(&mut unused, random);
         record.events.insert(place, unused);
         let place = random.between(0, record.events.len() as u32) as usize;
@@ -1217,7 +1380,7 @@ fn noise(random: &mut Random) -> Vec<u8> {
             put_word(
                 &mut bytes,
                 2 + place,
-                random.below(10) << 16 | random.below(0x10000),
+                random.below(KINDS) << 16 | random.below(0x10000),
             );
         }
     }
@@ -1230,12 +1393,13 @@ fn noise_of_events(random: &mut Random) -> Vec<u8> {
     let mut record = with_events(random);
     let cut = random.below(9);
     for _ in 0..random.between(1, 100) {
-        let kind = random.below(10);
+        let kind = random.below(KINDS);
         let (mut address, mut value) = (random.below(0x10000), random.word());
         if random.chance(cut, 8) {
             address = match kind {
                 SAMPLE => address & 7,
                 LOAD | STORE => address & 0x701C,
+                _ if random.coin() => address & 0x000F | 0x07D0,
                 _ => address & 0x0407 | 0x0BC8,
             };
             if kind == SET_MASK || random.coin() {

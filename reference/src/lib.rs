@@ -12,3 +12,4 @@ pub mod record;
 pub mod script;
 pub mod text;
 pub mod texts;
+pub mod timer;

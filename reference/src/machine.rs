@@ -1,6 +1,7 @@
-//! The interrupt controller, its handlers, and the ten events.
+//! The interrupt controller, its handlers, the internal timers, and the eleven events.
 
 use crate::event::{Action, Event};
+use crate::timer::{timer_register, Timer};
 
 pub const MEIVT: u32 = 0xBC8;
 pub const MEIPT: u32 = 0xBC9;
@@ -8,6 +9,7 @@ pub const MEICPCT: u32 = 0xBCA;
 pub const MEICIDPL: u32 = 0xBCB;
 pub const MEICURPL: u32 = 0xBCC;
 pub const MEIHAP: u32 = 0xFC8;
+/// The controller's CSRs; the timers' are apart.
 pub const CSRS: [u32; 6] = [MEIVT, MEIPT, MEICPCT, MEICIDPL, MEICURPL, MEIHAP];
 
 /// One external source with its gateway.
@@ -63,6 +65,7 @@ pub struct Machine {
     pub mask: bool,
     /// The uppermost handler is the last.
     pub handlers: Vec<Handler>,
+    pub timers: [Timer; 2],
 }
 
 /// The answer of an event and its refusal number, 0 when accepted.
@@ -91,6 +94,10 @@ fn require(yes: bool, refusal: u32) -> Result<(), u32> {
     }
 }
 
+fn is_csr(address: u32) -> bool {
+    CSRS.contains(&address) || timer_register(address).is_some()
+}
+
 impl Machine {
     /// The machine at power-on; for a bad N the machine of two sources and refusal 2.
     pub fn power_on(count: u32) -> (Machine, u32) {
@@ -109,6 +116,7 @@ impl Machine {
             current: 0,
             mask: false,
             handlers: Vec::new(),
+            timers: [Timer::power_on(), Timer::power_on()],
         };
         (machine, refusal)
     }
@@ -138,6 +146,7 @@ impl Machine {
             && self.claimed <= 15
             && self.current <= 15
             && self.handlers.len() <= 15
+            && self.timers.iter().all(Timer::sound)
     }
 
     fn latches_sound(&self) -> bool {
@@ -231,9 +240,9 @@ impl Machine {
                 require(offset < 0x8000, 10)?;
                 require(offset % 4 == 0, 11)
             }
-            Action::CsrRead { address } => require(CSRS.contains(&address), 12),
+            Action::CsrRead { address } => require(is_csr(address), 12),
             Action::CsrWrite { address, .. } => {
-                require(CSRS.contains(&address), 12)?;
+                require(is_csr(address), 12)?;
                 require(address != MEIHAP, 13)?;
                 require(address != MEICURPL || self.handlers.is_empty(), 14)
             }
@@ -254,6 +263,7 @@ impl Machine {
                 let may_unmask = self.handlers.last().map_or(true, |top| top.opened);
                 require(value == 0 || may_unmask, 21)
             }
+            Action::Clock => Ok(()),
         }
     }
 
@@ -282,6 +292,7 @@ impl Machine {
                 self.mask = value == 1;
                 0
             }
+            Action::Clock => self.clock(),
         }
     }
 
@@ -368,7 +379,10 @@ impl Machine {
             MEICIDPL => self.field_of(self.claimed),
             MEICURPL => self.field_of(self.current),
             MEIHAP => self.meihap(),
-            _ => 0,
+            _ => match timer_register(address) {
+                Some((timer, register)) => self.timers[timer].read(register),
+                None => 0,
+            },
         }
     }
 
@@ -379,7 +393,11 @@ impl Machine {
             MEICPCT => self.capture(),
             MEICIDPL => self.claimed = self.rank_of(value),
             MEICURPL => self.current = self.rank_of(value),
-            _ => {}
+            _ => {
+                if let Some((timer, register)) = timer_register(address) {
+                    self.timers[timer].write(register, value);
+                }
+            }
         }
     }
 
@@ -429,5 +447,14 @@ impl Machine {
         }
         self.mask = true;
         self.handlers.len() as u32
+    }
+
+    /// Bit 0 of the answer: timer 0 signals; bit 1: timer 1.
+    fn clock(&mut self) -> u32 {
+        let mut signals = 0;
+        for (place, timer) in self.timers.iter_mut().enumerate() {
+            signals |= u32::from(timer.clock()) << place;
+        }
+        signals
     }
 }

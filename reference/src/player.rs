@@ -1,6 +1,6 @@
 //! The print of a record.
 
-use crate::event::{CHAIN, SET_MASK};
+use crate::event::{CHAIN, KINDS};
 use crate::machine::Machine;
 use crate::record::{self, Record, MOST_EVENTS};
 use std::fmt::Write;
@@ -12,7 +12,7 @@ pub struct Tally {
     /// How often each refusal number was printed.
     pub refusals: [u64; 22],
     /// Accepted events by kind.
-    pub accepted: [u64; SET_MASK as usize + 1],
+    pub accepted: [u64; KINDS as usize],
     pub chains_served: u64,
     pub deepest: usize,
 }

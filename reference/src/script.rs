@@ -5,6 +5,7 @@ use crate::event::*;
 use crate::machine::*;
 use crate::random::Random;
 use crate::record::{Record, MOST_EVENTS};
+use crate::timer::*;
 
 /// How often each sort of step is chosen while wandering.
 #[derive(Clone, Copy)]
@@ -19,6 +20,8 @@ pub struct Weights {
     pub csr_write: u32,
     /// The next service event that the state suggests.
     pub service: u32,
+    /// A clock, or a register of a timer.
+    pub timer: u32,
     /// A service event without a look at the state.
     pub blind: u32,
     /// Offsets and CSR addresses at the edges.
@@ -35,6 +38,7 @@ pub const EVEN: Weights = Weights {
     csr_read: 8,
     csr_write: 10,
     service: 30,
+    timer: 8,
     blind: 4,
     boundary: 4,
     refused: 2,
@@ -170,6 +174,10 @@ impl Script {
         self.event(SET_MASK, 0, value)
     }
 
+    pub fn clock(&mut self) -> Outcome {
+        self.event(CLOCK, 0, 0)
+    }
+
     /// Sometimes sets bits above the kept ones, which the machine must drop.
     fn litter(&mut self, value: u32, kept: u32) -> u32 {
         if self.random.chance(1, 4) {
@@ -270,6 +278,26 @@ impl Script {
         self.csr_write(MEICPCT, value);
     }
 
+    pub fn set_counter(&mut self, timer: usize, count: u32) {
+        self.csr_write(MITCNT[timer], count);
+    }
+
+    pub fn set_bound(&mut self, timer: usize, bound: u32) {
+        self.csr_write(MITB[timer], bound);
+    }
+
+    pub fn set_control(&mut self, timer: usize, control: u32) {
+        let value = self.litter(control, 3);
+        self.csr_write(MITCTL[timer], value);
+    }
+
+    /// Reads all that the timers hold.
+    pub fn read_timers(&mut self) {
+        for address in TIMER_CSRS {
+            self.csr_read(address);
+        }
+    }
+
     /// Reads what a capture sets.
     pub fn read_claim(&mut self) {
         self.csr_read(MEIHAP);
@@ -310,6 +338,76 @@ impl Script {
             0 => near.saturating_sub(1),
             1 => near,
             _ => (near + 1).min(15),
+        }
+    }
+
+    /// A bound, often the least, a low one or the greatest.
+    pub fn a_bound(&mut self) -> u32 {
+        match self.random.below(8) {
+            0 => 0,
+            1 => 1,
+            2..=4 => self.random.between(2, 9),
+            5 => u32::MAX,
+            6 => u32::MAX - self.random.below(3),
+            _ => self.random.word(),
+        }
+    }
+
+    /// A count, often beside the timer's bound.
+    pub fn a_count(&mut self, timer: usize) -> u32 {
+        let bound = self.machine.timers[timer].bound;
+        match self.random.below(8) {
+            0 => bound.saturating_sub(2),
+            1 => bound.saturating_sub(1),
+            2 => bound,
+            3 => bound.saturating_add(1),
+            4 => u32::MAX,
+            5 => u32::MAX - 1,
+            6 => self.random.below(10),
+            _ => self.random.word(),
+        }
+    }
+
+    /// One of the twelve CSRs, mostly one of the controller's.
+    pub fn a_csr(&mut self) -> u32 {
+        if self.random.chance(1, 4) {
+            self.random.pick(&TIMER_CSRS)
+        } else {
+            self.random.pick(&CSRS)
+        }
+    }
+
+    /// A clock or several, or a register of a timer written or read.
+    pub fn timer_step(&mut self) {
+        let timer = self.random.below(2) as usize;
+        match self.random.below(12) {
+            0..=3 => {
+                self.clock();
+            }
+            4 => {
+                for _ in 0..self.random.between(2, 12) {
+                    self.clock();
+                }
+            }
+            5 => {
+                let bound = self.a_bound();
+                self.set_bound(timer, bound);
+            }
+            6 | 7 => {
+                let count = self.a_count(timer);
+                self.set_counter(timer, count);
+            }
+            8 => {
+                let control = self.random.below(8);
+                self.set_control(timer, control);
+            }
+            9 => {
+                let address = self.random.pick(&TIMER_CSRS);
+                self.csr_read(address);
+            }
+            _ => {
+                self.csr_read(MITCNT[timer]);
+            }
         }
     }
 
@@ -470,7 +568,7 @@ impl Script {
     }
 
     pub fn legal_csr_read(&mut self) {
-        let address = self.random.pick(&CSRS);
+        let address = self.a_csr();
         self.csr_read(address);
     }
 
@@ -517,16 +615,23 @@ impl Script {
     }
 
     pub fn boundary_csr(&mut self) -> u32 {
-        let real = self.random.pick(&CSRS);
-        match self.random.below(10) {
+        let real = if self.random.chance(1, 3) {
+            self.random.pick(&TIMER_CSRS)
+        } else {
+            self.random.pick(&CSRS)
+        };
+        match self.random.below(11) {
             0..=3 => real,
-            4 => self.random.pick(&[0xBC7, 0xBCD, 0xFC7, 0xFC9]),
-            5 => real | 0x1000 << self.random.below(4),
-            6 => self
+            4 => self
                 .random
-                .pick(&[0x1BC8, 0x1FC8, 0xFBC8, 0, 0xFFFF, 0xBC0, 0xFCC]),
+                .pick(&[0x7D1, 0x7D8, 0xBC7, 0xBCD, 0xFC7, 0xFC9]),
+            5 => real | 0x1000 << self.random.below(4),
+            6 => self.random.pick(&[
+                0x1BC8, 0x1FC8, 0xFBC8, 0x17D2, 0xF7D7, 0, 0xFFFF, 0x7C8, 0xBC0, 0xBD2, 0xFCC,
+            ]),
             7 => real ^ 1 << self.random.below(16),
-            8 => 0xB00 + self.random.below(0x100),
+            8 => 0x7D0 + self.random.below(0x10),
+            9 => 0xB00 + self.random.below(0x100),
             _ => self.random.below(0x10000),
         }
     }
@@ -556,6 +661,7 @@ impl Script {
     /// An event that is refused, in most states.
     pub fn refused_step(&mut self) {
         let value = self.random.word();
+        let no_csrs = [0x7D1, 0x7D8, 0x17D2, 0xBC7, 0xBCD, 0x1BCC, 0xFC9];
         match self.random.below(13) {
             0 => {
                 let word = self.random.pick(&[8, 9, 16, 0x100, 0x8000, 0xFFFF]);
@@ -570,11 +676,11 @@ impl Script {
                 self.store(offset, value);
             }
             3 => {
-                let address = self.random.pick(&[0xBC7, 0xBCD, 0x1BCC, 0xFC9]);
+                let address = self.random.pick(&no_csrs);
                 self.csr_read(address);
             }
             4 => {
-                let address = self.random.pick(&[0xBC7, 0xBCD, 0x1BCC, 0xFC9]);
+                let address = self.random.pick(&no_csrs);
                 self.csr_write(address, value);
             }
             5 => {
@@ -632,6 +738,7 @@ impl Script {
             weights.csr_read,
             weights.csr_write,
             weights.service,
+            weights.timer,
             weights.blind,
             weights.boundary,
             weights.refused,
@@ -653,7 +760,8 @@ impl Script {
             4 => self.legal_csr_read(),
             5 => self.legal_csr_write(),
             6 => self.serve(),
-            7 => {
+            7 => self.timer_step(),
+            8 => {
                 let kind = self.random.between(TAKE, SET_MASK);
                 let value = if kind == SET_MASK {
                     self.random.below(2)
@@ -662,7 +770,7 @@ impl Script {
                 };
                 self.event(kind, 0, value);
             }
-            8 => self.boundary(),
+            9 => self.boundary(),
             _ => self.refused_step(),
         }
     }
@@ -688,6 +796,7 @@ impl Script {
         for address in CSRS {
             self.csr_read(address);
         }
+        self.read_timers();
         self.load(0x3000);
         self.pending_words();
         for &source in &shown {

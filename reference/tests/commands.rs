@@ -73,6 +73,8 @@ fn its_own_player_is_alike() {
             for (name, _) in FAMILIES {
                 assert!(text.contains(&format!("family {name}: records 2 ")));
             }
+            assert!(text.contains("\nkind 9 (set mask): accepted "));
+            assert!(text.contains("\nkind 10 (clock): accepted "));
         }
         Verdict::Different(found) => panic!("{}", found.text()),
     }

@@ -3,6 +3,7 @@
 mod common;
 
 use common::*;
+use reference::event::CLOCK;
 use reference::machine::*;
 use reference::record::{self, lay_out, Refusal};
 
@@ -71,8 +72,9 @@ fn records_1_to_5() {
 fn records_6_and_7_with_their_places() {
     let good = 0x0005_0000;
     for (head, value, number) in [
-        (0x000A_0000, 0, 6),
-        (0x000A_0001, 1, 6),
+        (0x000B_0000, 0, 6),
+        (0x000E_0000, 0, 6),
+        (0x000E_0001, 1, 6),
         (0xFFFF_0000, 0, 6),
         (0x0001_0000, 1, 7),
         (0x0003_0000, 1, 7),
@@ -85,6 +87,10 @@ fn records_6_and_7_with_their_places() {
         (0x0008_0001, 0, 7),
         (0x0008_0000, 1, 7),
         (0x0009_0001, 1, 7),
+        (0x000A_0001, 0, 7),
+        (0x000A_8000, 0, 7),
+        (0x000A_0000, 1, 7),
+        (0x000A_0000, 0x8000_0000, 7),
     ] {
         let (heads, values) = ([good, head, 0xFFFF_0000], [0, value, 1]);
         assert_eq!(reading(&lay_out(3, 2, &heads, &values)), Some((number, 1)));
@@ -102,7 +108,7 @@ fn event_8_comes_first() {
     unsound.current = 16;
     assert_eq!(unsound.act(0xFFFF, 0, 0), refused(8));
     assert_eq!(unsound.query_margin(), Err(8));
-    let changes: [fn(&mut Machine); 14] = [
+    let changes: [fn(&mut Machine); 17] = [
         |machine| machine.sources.clear(),
         |machine| machine.sources[0].rank = 16,
         |machine| machine.sources[1].line = true,
@@ -117,6 +123,9 @@ fn event_8_comes_first() {
         |machine| machine.handlers[0].saved = 5,
         |machine| machine.handlers[0].opened = false,
         |machine| machine.handlers.push(machine.handlers[0].clone()),
+        |machine| machine.timers[0].control = 8,
+        |machine| machine.timers[1].control = 8,
+        |machine| machine.timers[1].control = 0x8000_0001,
     ];
     for change in changes {
         let mut machine = opened();
@@ -125,6 +134,11 @@ fn event_8_comes_first() {
         assert!(machine.sound());
         change(&mut machine);
         assert_eq!(machine.load(0), refused(8));
+        assert_eq!(machine.clock(), refused(8));
+        // Before 6 and 7.
+        assert_eq!(machine.act(CLOCK, 1, 1), refused(8));
+        assert_eq!(machine.act(14, 0, 0), refused(8));
+        assert_eq!(machine.query_margin(), Err(8));
     }
     let mut unmasked = taken();
     unmasked.mask = true;
@@ -140,7 +154,9 @@ fn events_9_to_14() {
     assert_eq!(machine.store(0x8001, 0), refused(10));
     assert_eq!(machine.load(0x7FFD), refused(11));
     assert_eq!(machine.store(0x7FFE, 0), refused(11));
-    for address in [0xBC7, 0xBCD, 0xFC7, 0xFC9, 0x1BC8, 0xFBC8, 0, 0xFFFF] {
+    for address in [
+        0xBC7, 0xBCD, 0xFC7, 0xFC9, 0x1BC8, 0xFBC8, 0, 0xFFFF, 0x7D1, 0x7D8, 0x17D2, 0x87D7,
+    ] {
         assert_eq!(machine.csr_read(address), refused(12));
         assert_eq!(machine.csr_write(address, 0), refused(12));
     }

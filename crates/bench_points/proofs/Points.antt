@@ -16,10 +16,12 @@ use Rattle.pic_registers.specs.Calls as registers
 use Rattle.pic_csrs.specs.Addresses.{csrAt}
 use Rattle.pic_csrs.specs.Values.{csrValue, csrWritten}
 use Rattle.pic_csrs.specs.Calls as csrs
+use Rattle.counters.specs.Timers as timers
+use Rattle.counters.specs.Csrs as counters
 use Rattle.handlers_stack.specs.Stacks.{handlerSound, belowOf, handlersSound, levelOf}
 use Rattle.handlers.specs.Machines.{powerOnOf, soundOf}
-use Rattle.handlers.specs.Service.{sampleEvent, loadEvent, storeEvent, csrReadEvent, csrWriteEvent, takeEvent, openEvent, chainEvent, returnEvent, setMaskEvent, eventOf, soundStepOf}
-use Rattle.handlers.specs.Calls.{stepOf, marginAnswer}
+use Rattle.handlers.specs.Service.{sampleEvent, loadEvent, storeEvent, csrReadEvent, controllerWrite, csrWriteEvent, takeEvent, openEvent, chainEvent, returnEvent, setMaskEvent, clockEvent, eventOf, soundStepOf}
+use Rattle.handlers.specs.Calls.{clockOf, stepOf, marginAnswer}
 use Rattle.handlers_laws.proofs.Ranks.{rank-kept, field-15-never}
 use Rattle.claims.specs.Play.{endOf, eachOf}
 use Rattle.digits.specs.Digits.{digitsTo}
@@ -32,7 +34,7 @@ use Rattle.bench_points.specs.Points.{Points, Plays, Holds, after, listi
 
 -- To unfold this is to unfold every rule.
 rules : Unit {0}
-unfolding printOf eventLines ascii digitsTo readVerdict walkFrom wordsOf bytesOfWords endOf eachOf stepOf soundStepOf eventOf sampleEvent loadEvent storeEvent csrReadEvent csrWriteEvent takeEvent openEvent chainEvent returnEvent setMaskEvent marginAnswer soundOf handlersSound handlerSound belowOf levelOf powerOnOf shapeOf calls.powerOnOf calls.sourceCount calls.currentRank calls.setCurrent calls.meihapOf calls.captureOf calls.lookOf registers.sampleOf registers.loadOf registers.storeOf csrs.csrReadOf csrs.csrWriteOf sound.soundOf sound.sourcesSound sourceSound isPending isEligible entryOf betterOf winnerTo higherOf differenceOf joinOf wordTo placesTo sourceRegister pageRegister offsetRefusal readOf writtenOf csrAt csrValue csrWritten mirror
+unfolding printOf eventLines ascii digitsTo readVerdict walkFrom wordsOf bytesOfWords endOf eachOf stepOf soundStepOf eventOf sampleEvent loadEvent storeEvent csrReadEvent controllerWrite csrWriteEvent takeEvent openEvent chainEvent returnEvent setMaskEvent clockEvent clockOf marginAnswer soundOf handlersSound handlerSound belowOf levelOf powerOnOf shapeOf calls.powerOnOf calls.sourceCount calls.currentRank calls.setCurrent calls.meihapOf calls.captureOf calls.lookOf registers.sampleOf registers.loadOf registers.storeOf csrs.csrReadOf csrs.csrWriteOf sound.soundOf sound.sourcesSound sourceSound isPending isEligible entryOf betterOf winnerTo higherOf differenceOf joinOf wordTo placesTo sourceRegister pageRegister offsetRefusal readOf writtenOf csrAt csrValue csrWritten mirror timers.timerAt timers.withTimer timers.resetCounters timers.timerSound timers.soundOf timers.nextCount timers.clockOf counters.csrOf counters.csrAt counters.csrValue counters.csrWritten
 rules = tt
 
 -- The whole print and the long list apart from the table, since what one declaration may compute is limited.
@@ -102,4 +104,15 @@ points =
       fifteen = fifteen;
       fifteen-up-held = fifteen-up-held;
       fifteen-down-held = fifteen-down-held;
+      timers-reset = (refl, refl);
+      timers-at-bound = (refl, refl);
+      timers-disabled = (refl, refl);
+      timers-both = (refl, refl);
+      timers-highest = (refl, refl);
+      timers-unused = (refl, refl);
+      timers-sound = refl;
+      timers-unsound = refl;
+      timers-nested = (refl, refl);
+      timers-nested-up = refl;
+      timers-nested-down = refl;
     }

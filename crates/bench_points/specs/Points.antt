@@ -1,5 +1,5 @@
--- Document 01, "Bench points K1 to K10", the ends of the margin, the listing of "The player", and a list that nests fifteen handlers: one table about the
--- rules. Each point is a list of events played from power-on, each event with what it must answer or be refused with, and what the machine must hold after it.
+-- Document 01, "Bench points K1 to K10", the ends of the margin, the listing of "The player", a list that nests fifteen handlers, and the timers of document 02: one
+-- table about the rules. Each point is a list of events played from power-on, each event with what it must answer or be refused with, and what the machine must hold after it.
 use Prim.Native.Nat.{ℕ, zero, suc, _+_, _*_, _^_, _≤_}
 use Prim.Native.String.{String}
 use mathlib.Core.Path.{_≡_}
@@ -13,10 +13,12 @@ use Rattle.pic_source.specs.declared.Rank.{Rank}
 use Rattle.pic_source.specs.Ranks.{rank}
 use Rattle.pic.specs.Sources.{rankAt, eligibleAt, winnerOf}
 use Rattle.pic.specs.Calls.{sourceCount, currentRank}
+use Rattle.counters.specs.Timers.{withControl, withTimer, resetTimer}
 use Rattle.handlers_stack.specs.declared.Handler.{Handler}
 use Rattle.handlers.specs.declared.Machine.{Machine}
+use Rattle.handlers.specs.Fields.{withCounters}
 use Rattle.handlers.specs.Machines.{soundOf, powerOnOf}
-use Rattle.handlers.specs.Calls.{storeOf, stepOf, marginAnswer}
+use Rattle.handlers.specs.Calls.{storeOf, clockOf, stepOf, marginAnswer}
 use Rattle.claims.specs.Play.{endOf, answersOf, refusalsOf}
 use Rattle.record.specs.Record.{recordOf}
 use Rattle.digits.specs.Ascii.{ascii}
@@ -43,7 +45,7 @@ infix 80 _refused_
 abbrev pub _refused_ : Row → ℕ → Row
 e refused q = record { head = e .head; value = e .value; answer = 0; refusal = q }
 
--- The ten kinds. Sample: a word number and its bits. Load and store: an offset. CSR read and write: a CSR. Set mask: the value.
+-- The eleven kinds. Sample: a word number and its bits. Load and store: an offset. CSR read and write: a CSR. Set mask: the value.
 abbrev pub sample : ℕ → ℕ → Row
 sample x v = event 0 x v
 
@@ -73,6 +75,9 @@ return = event 8 0 0
 
 abbrev pub mask : ℕ → Row
 mask v = event 9 0 v
+
+abbrev pub clock : Row
+clock = event 10 0 0
 
 -- Offsets of registers, of source s or of word x, and the CSRs.
 abbrev pub meipl : ℕ → ℕ
@@ -107,6 +112,16 @@ meicurpl = 0xBCC
 
 abbrev pub meihap : ℕ
 meihap = 0xFC8
+
+-- Counter, bound and control of timer i.
+abbrev pub mitcnt : ℕ → ℕ
+mitcnt i = 0x7D2 + 3 * i
+
+abbrev pub mitb : ℕ → ℕ
+mitb i = 0x7D3 + 3 * i
+
+abbrev pub mitctl : ℕ → ℕ
+mitctl i = 0x7D4 + 3 * i
 
 -- The columns of a list of rows.
 abbrev pub headColumn : List Row → List ℕ
@@ -284,6 +299,28 @@ fifteen-handlers =
     ∷ handler 15 15 14 1
     ∷ []
 
+-- Timer i with this counter, bound and control.
+abbrev pub timer : ℕ → ℕ → ℕ → ℕ → List Row
+timer i count bound control = csrWrite (mitcnt i) count ∷ csrWrite (mitb i) bound ∷ csrWrite (mitctl i) control ∷ []
+
+-- The counters of both timers.
+abbrev pub counts : ℕ → ℕ → List Row
+counts a b = csrRead (mitcnt 0) answers a ∷ csrRead (mitcnt 1) answers b ∷ []
+
+-- Sources 1 and 2 nest with clocks before, between and after their taking and opening; timer 0 has the bound 3, and timer 1 counts on.
+abbrev pub nested-up : List Row
+nested-up =
+    csrWrite (mitb 0) 3
+    ∷ ranked 2
+    ++ (mask 1 ∷ clock ∷ sample 0 2 ∷ take answers 4 ∷ clock ∷ open-handler answers 1 ∷ clock ∷ sample 0 4 ∷ clock answers 1 ∷ take answers 8 ∷ clock ∷ open-handler answers 2 ∷ [])
+
+abbrev pub nested-down : List Row
+nested-down = clock ∷ mask 0 ∷ clock ∷ return answers 1 ∷ clock answers 1 ∷ mask 0 ∷ return answers 0 ∷ clock ∷ []
+
+-- A machine as power-on leaves it, but for the control of timer 1.
+abbrev pub controlled : ℕ → Machine
+controlled v = withCounters (start 4) (withTimer (start 4 .counters) 1 (withControl resetTimer v))
+
 -- The table.
 pub record Points : Type 0 where
   -- K1 rank 5, priord set to 1: meipl reads 10.
@@ -372,3 +409,33 @@ pub record Points : Type 0 where
   pub fifteen : Plays 16 (fifteen-up ++ fifteen-down)
   pub fifteen-up-held : Holds (after 16 fifteen-up) 15 fifteen-handlers 15
   pub fifteen-down-held : Holds (after 16 (fifteen-up ++ fifteen-down)) 0 [] 0
+  -- Document 02, No. 1. The timers at power-on; control reads back its three bits, and the first address on either side of the six is refused.
+  pub timers-reset :
+      Plays 4
+      (counts 0 0
+      ++ (csrRead (mitb 0) answers 0xFFFFFFFF
+      ∷ csrRead (mitb 1) answers 0xFFFFFFFF
+      ∷ csrRead (mitctl 0) answers 1
+      ∷ csrRead (mitctl 1) answers 1
+      ∷ csrWrite (mitctl 1) 0xFFFFFFFE
+      ∷ csrRead (mitctl 1) answers 6
+      ∷ csrRead 0x7D1 refused 12
+      ∷ csrWrite 0x7D8 0 refused 12
+      ∷ []))
+  -- A signal at the bound, not before.
+  pub timers-at-bound : Plays 4 (timer 0 0 2 1 ++ (clock ∷ clock ∷ []) ++ counts 2 2 ++ (clock answers 1 ∷ []) ++ counts 0 3)
+  -- A disabled timer above its bound is cleared and signals, and then it stays.
+  pub timers-disabled : Plays 4 (timer 1 9 5 0 ++ (clock answers 2 ∷ []) ++ counts 1 0 ++ (clock ∷ []) ++ counts 2 0)
+  -- Both signal; the bound 0 signals at every clock; the highest bound is reached and the counter does not leave its 32 bits.
+  pub timers-both : Plays 4 (timer 0 0 0 1 ++ timer 1 7 7 0 ++ (clock answers 3 ∷ clock answers 1 ∷ clock answers 1 ∷ []) ++ counts 0 0)
+  pub timers-highest :
+      Plays 4 (timer 1 0xFFFFFFFE 0xFFFFFFFF 7 ++ (clock ∷ []) ++ counts 1 0xFFFFFFFF ++ (clock answers 2 ∷ []) ++ counts 2 0)
+  -- "Uses neither address nor value"; and there is no kind after it.
+  pub timers-unused : Plays 4 (event 10 1 0 refused 7 ∷ event 10 0 1 refused 7 ∷ event 11 0 0 refused 6 ∷ counts 0 0)
+  -- Control 7 is in range, 8 is not.
+  pub timers-sound : soundOf (controlled 7) ≡ true
+  pub timers-unsound : clockOf (controlled 8) ≡ record { machine = controlled 8; answer = 0; refusal = 8 }
+  -- Two handlers nest with clocks between them, and return.
+  pub timers-nested : Plays 4 (nested-up ++ nested-down ++ counts 1 9)
+  pub timers-nested-up : Holds (after 4 nested-up) 2 (handler 1 1 0 1 ∷ handler 2 2 1 1 ∷ []) 2
+  pub timers-nested-down : Holds (after 4 (nested-up ++ nested-down)) 0 [] 0

@@ -22,13 +22,16 @@ use Rattle.pic_source.proofs.Bools.{and-parts, le-cases}
 use Rattle.pic_laws.proofs.Kept.{current-is}
 use Rattle.pic_laws.proofs.Captures.{Found, look-found, margin-over, above-over}
 use Rattle.pic.proofs.Winning.{eligible-parts, eligible-is}
+use Rattle.counters.specs.declared.Counters.{Counters}
+use Rattle.counters.specs.Timers as timers
+use Rattle.counters.specs.Csrs as counters
 use Rattle.nesting.specs.Claim.{isOther, Does, Pushed, Swapped, Laws}
 use Rattle.nesting.specs.Held.{held}
 use Rattle.nesting.proofs.Held.{held-push, held-pop, held-swap, held-mark, held-top}
 use Rattle.nesting.proofs.Nesting.{nesting}
 use Rattle.handlers.specs.declared.Machine.{Machine}
 use Rattle.handlers.specs.declared.Outcome.{Outcome}
-use Rattle.handlers.specs.Fields.{withMask}
+use Rattle.handlers.specs.Fields.{withMask, withCounters}
 use Rattle.handlers_stack.specs.Stacks.{blank}
 use Rattle.handlers.specs.Machines.{uppermost, powerOnOf}
 use Rattle.handlers.specs.Service.{accepted, refused, lifted, lookAt, newHandler, taken, marked, serves, replaced, chained}
@@ -132,6 +135,10 @@ module _ (m : Machine) (r : Ready m) where
   controller-does : (kind : ℕ) → (kind ≡ 5 → ⊥) → (kind ≡ 7 → ⊥) → (kind ≡ 8 → ⊥) → (o : controller.Outcome) → DoesBy kind m (lifted m o)
   controller-does kind a b c o = other-does kind (lifted m o) a b c refl
 
+  -- An event of the timers changes them alone: a clock opens no handler.
+  counters-do : (kind : ℕ) (t : Counters) (answer : ℕ) → (kind ≡ 5 → ⊥) → (kind ≡ 7 → ⊥) → (kind ≡ 8 → ⊥) → DoesBy kind m (accepted (withCounters m t) answer)
+  counters-do kind t answer a b c = other-does kind (accepted (withCounters m t) answer) a b c refl
+
   step-does : (head value : ℕ) → DoesBy (kindOf head) m (stepOf m head value)
   step-does head v =
       let a = addressOf head in
@@ -142,7 +149,9 @@ module _ (m : Machine) (r : Ready m) where
         loads = controller-does 1 (λ e. omega arith) (λ e. omega arith) (λ e. omega arith) (registers.loadOf (m .controller) a);
         stores = controller-does 2 (λ e. omega arith) (λ e. omega arith) (λ e. omega arith) (registers.storeOf (m .controller) a v);
         reads = controller-does 3 (λ e. omega arith) (λ e. omega arith) (λ e. omega arith) (csrs.csrReadOf (m .controller) a);
+        counter-reads = λ f. counters-do 3 (m .counters) (counters.csrValue (m .counters) (counters.csrAt a)) (λ e. omega arith) (λ e. omega arith) (λ e. omega arith);
         writes = λ f. controller-does 4 (λ e. omega arith) (λ e. omega arith) (λ e. omega arith) (csrs.csrWriteOf (m .controller) a v);
+        counter-writes = λ f. counters-do 4 (counters.csrWritten (m .counters) (counters.csrAt a) v) 0 (λ e. omega arith) (λ e. omega arith) (λ e. omega arith);
         takes = λ f g. taken-pushes (λ z. let o = eqb-true (m .mask) 1 f in omega arith) g;
         opens = λ f. held-mark seen (m .stack) (m .depth) (marked (uppermost m)) blank (ltb-true 0 (m .depth) f) deep refl;
         chains = λ f e. let w = chained-swaps (ltb-true 0 (m .depth) f) e in rw (ne-eqb (lookAt m .meihap) 0 (w .0)) (w .1);
@@ -154,6 +163,7 @@ module _ (m : Machine) (r : Ready m) where
               restored = ap (λ (z : Rank). z .0) (current-is (m .controller) (uppermost m .saved));
             };
         masks = λ f g. other-does 9 (accepted (withMask m v) 0) (λ e. omega arith) (λ e. omega arith) (λ e. omega arith) refl;
+        clocks = counters-do 10 (timers.clockOf (m .counters) .counters) (timers.clockOf (m .counters) .answer) (λ e. omega arith) (λ e. omega arith) (λ e. omega arith);
       })
 
 -- The laws of nested handlers hold of the machine.

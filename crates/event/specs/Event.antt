@@ -18,7 +18,8 @@ addressOf head = head % 65536
 abbrev uses : Bool → Bool → Uses
 uses address value = record { 0 = address; 1 = value }
 
--- One row for each kind. Kinds 5 to 9 don't use the address; kinds 1, 3, 5, 6, 7, 8 don't use the value.
+-- One row for each kind. Kinds 5 to 9 don't use the address; kinds 1, 3, 5, 6, 7, 8 don't use the value. "Kind 10 is one clock and uses neither address nor
+-- value" (document 02, No. 1).
 abbrev pub kinds : List Uses
 kinds =
     uses true true  -- 0 sample
@@ -31,9 +32,10 @@ kinds =
     ∷ uses false false  -- 7 chain
     ∷ uses false false  -- 8 return
     ∷ uses false true  -- 9 set mask to the value
+    ∷ uses false false  -- 10 clock
     ∷ []
 
--- 6. Is the kind 0..9? It has a row.
+-- 6. Is the kind 0..10? It has a row.
 abbrev pub isKind : ℕ → Bool
 isKind k = ltb k (length kinds)
 

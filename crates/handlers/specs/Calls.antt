@@ -6,7 +6,7 @@ use Rattle.handlers.specs.declared.Machine.{Machine}
 use Rattle.handlers.specs.declared.Outcome.{Outcome}
 use Rattle.handlers.specs.declared.Margin.{Margin}
 use Rattle.handlers.specs.Machines.{soundOf}
-use Rattle.handlers.specs.Service.{ask, lookAt, sampleEvent, loadEvent, storeEvent, csrReadEvent, csrWriteEvent, takeEvent, openEvent, chainEvent, returnEvent, setMaskEvent, soundStepOf}
+use Rattle.handlers.specs.Service.{ask, lookAt, sampleEvent, loadEvent, storeEvent, csrReadEvent, csrWriteEvent, takeEvent, openEvent, chainEvent, returnEvent, setMaskEvent, clockEvent, soundStepOf}
 
 -- 8. Is the machine sound? It comes before all else that an event is asked.
 abbrev pub soundFirst : Machine → Outcome → Outcome
@@ -41,6 +41,9 @@ returnOf m = soundFirst m (returnEvent m)
 
 unfoldable pub setMaskOf : Machine → ℕ → Outcome
 setMaskOf m v = soundFirst m (setMaskEvent m v)
+
+unfoldable pub clockOf : Machine → Outcome
+clockOf m = soundFirst m (clockEvent m)
 
 -- Event: 8 comes first, then 6 and 7, then its kind's.
 unfoldable pub stepOf : Machine → ℕ → ℕ → Outcome

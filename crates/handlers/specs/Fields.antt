@@ -2,6 +2,7 @@
 use Prim.Native.Nat.{ℕ}
 use mathlib.Core.List.{List}
 use Rattle.pic.specs.declared.Controller.{Controller}
+use Rattle.counters.specs.declared.Counters.{Counters}
 use Rattle.handlers_stack.specs.declared.Handler.{Handler}
 use Rattle.handlers.specs.declared.Machine.{Machine}
 
@@ -12,6 +13,7 @@ withController m v =
       mask = m .mask;
       depth = m .depth;
       stack = m .stack;
+      counters = m .counters;
     }
 
 abbrev pub withMask : Machine → ℕ → Machine
@@ -21,6 +23,7 @@ withMask m v =
       mask = v;
       depth = m .depth;
       stack = m .stack;
+      counters = m .counters;
     }
 
 abbrev pub withDepth : Machine → ℕ → Machine
@@ -30,6 +33,7 @@ withDepth m v =
       mask = m .mask;
       depth = v;
       stack = m .stack;
+      counters = m .counters;
     }
 
 abbrev pub withStack : Machine → List Handler → Machine
@@ -39,4 +43,15 @@ withStack m v =
       mask = m .mask;
       depth = m .depth;
       stack = v;
+      counters = m .counters;
+    }
+
+abbrev pub withCounters : Machine → Counters → Machine
+withCounters m v =
+    record {
+      controller = m .controller;
+      mask = m .mask;
+      depth = m .depth;
+      stack = m .stack;
+      counters = v;
     }

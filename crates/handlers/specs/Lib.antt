@@ -5,3 +5,4 @@ pub mod Service
 pub mod Calls
 pub mod Checked
 pub mod Latches
+pub mod Timers

@@ -1,4 +1,4 @@
--- Document 01, "What a machine holds": the machine, power-on, and when it is sound.
+-- Document 01, "What a machine holds": the machine, power-on, and when it is sound. Document 02, No. 1, adds the timers.
 use Prim.Native.Nat.{ℕ}
 use mathlib.Core.Bool.{Bool, _||_}
 use mathlib.Core.List.{List, [], _∷_}
@@ -7,6 +7,7 @@ use lib.Dec.{leb, eqb}
 use Rattle.pic_source.specs.Tests.{allHold}
 use Rattle.pic.specs.Sound as pic
 use Rattle.pic.specs.Calls as calls
+use Rattle.counters.specs.Timers as counters
 use Rattle.handlers_stack.specs.declared.Handler.{Handler}
 use Rattle.handlers_stack.specs.Stacks.{blank, uppermostOf, handlersSound, levelOf}
 use Rattle.handlers.specs.declared.Machine.{Machine}
@@ -16,11 +17,11 @@ use Rattle.handlers.specs.declared.Outcome.{Outcome}
 abbrev pub uppermost : Machine → Handler
 uppermost m = uppermostOf (m .stack) (m .depth)
 
--- Power-on with N sets all else to 0, the stack empty. With an N that is refused it hands back the machine of N 2.
+-- Power-on with N sets all else to 0, the stack empty, and the timers to their reset values. With an N that is refused it hands back the machine of N 2.
 unfoldable pub powerOnOf : ℕ → Outcome
 powerOnOf n =
     record {
-      machine = record { controller = calls.powerOnOf n .controller; mask = 0; depth = 0; stack = replicate 15 blank };
+      machine = record { controller = calls.powerOnOf n .controller; mask = 0; depth = 0; stack = replicate 15 blank; counters = counters.resetCounters };
       answer = 0;
       refusal = calls.powerOnOf n .refusal;
     }
@@ -37,8 +38,8 @@ isOpen m = eqb (m .depth) 0 || eqb (uppermost m .opened) 1
 abbrev pub maskFits : Machine → Bool
 maskFits m = eqb (m .mask) 0 || isOpen m
 
--- A machine is sound (01's word) when: a stack of at most 15 handlers; mask 0 or 1; what is said of each handler; current and mask fit the uppermost; and
--- the controller is sound.
+-- A machine is sound (01's word) when: a stack of at most 15 handlers; mask 0 or 1; what is said of each handler; current and mask fit the uppermost;
+-- the controller is sound; and "each field added here or later is in its range too" (document 02, No. 1).
 abbrev pub soundTests : Machine → List Bool
 soundTests m =
     leb (m .depth) 15
@@ -47,6 +48,7 @@ soundTests m =
     ∷ currentFits m
     ∷ maskFits m
     ∷ pic.soundOf (m .controller)
+    ∷ counters.soundOf (m .counters)
     ∷ []
 
 unfoldable pub soundOf : Machine → Bool

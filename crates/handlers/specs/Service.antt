@@ -1,4 +1,4 @@
--- Document 01, "Handler service", and the questions 14 to 21: what each event does and answers, once question 8 is answered yes. The rules are total: on a machine that
+-- Document 01, "Handler service", and the questions 12 to 21; document 02, No. 1: what each event does and answers, once question 8 is answered yes. The rules are total: on a machine that
 -- is not sound they say what the code does, and question 8 keeps that from every caller.
 use Prim.Native.Nat.{ℕ, _+_, _-_, _%_, _^_}
 use mathlib.Core.Bool.{Bool, cond, not, _&&_, _||_}
@@ -13,10 +13,12 @@ use Rattle.pic.specs.declared.Outcome as controller
 use Rattle.pic.specs.Calls.{currentRank, setCurrent, captureOf, lookOf}
 use Rattle.pic_registers.specs.Calls as registers
 use Rattle.pic_csrs.specs.Calls as csrs
+use Rattle.counters.specs.Timers as timers
+use Rattle.counters.specs.Csrs as counters
 use Rattle.handlers_stack.specs.declared.Handler.{Handler}
 use Rattle.handlers.specs.declared.Machine.{Machine}
 use Rattle.handlers.specs.declared.Outcome.{Outcome}
-use Rattle.handlers.specs.Fields.{withController, withMask, withDepth, withStack}
+use Rattle.handlers.specs.Fields.{withController, withMask, withDepth, withStack, withCounters}
 use Rattle.handlers.specs.Machines.{uppermost, isOpen}
 
 -- An accepted event hands back a machine and its answer, with no refusal.
@@ -35,7 +37,7 @@ ask m answer q on = cond answer on (refused m q)
 abbrev pub lifted : Machine → controller.Outcome → Outcome
 lifted m o = record { machine = withController m (o .controller); answer = o .answer; refusal = o .refusal }
 
--- Sample, load, store, CSR read: the controller's own questions.
+-- Sample, load, store: the controller's own questions.
 unfoldable pub sampleEvent : Machine → ℕ → ℕ → Outcome
 sampleEvent m x v = lifted m (registers.sampleOf (m .controller) x v)
 
@@ -45,16 +47,27 @@ loadEvent m offset = lifted m (registers.loadOf (m .controller) offset)
 unfoldable pub storeEvent : Machine → ℕ → ℕ → Outcome
 storeEvent m offset v = lifted m (registers.storeOf (m .controller) offset v)
 
+-- "Questions 6 and 12 widen to the new kind and CSRs": a CSR of the counters, which are the timers, is read and written there; any other address is the controller's,
+-- which asks 12.
+abbrev pub ofCounters : ℕ → Bool
+ofCounters a = counters.isCsr (counters.csrAt a)
+
 unfoldable pub csrReadEvent : Machine → ℕ → Outcome
-csrReadEvent m a = lifted m (csrs.csrReadOf (m .controller) a)
+csrReadEvent m a = cond (ofCounters a) (accepted m (counters.csrValue (m .counters) (counters.csrAt a))) (lifted m (csrs.csrReadOf (m .controller) a))
 
 -- 14. Write to 0xBCC: is no handler open?
 abbrev pub mayWrite : Machine → ℕ → Bool
 mayWrite m a = not (eqb a 0xBCC) || eqb (m .depth) 0
 
--- CSR write: 14 and the controller's own. 14 is asked of 0xBCC alone, to which 12 and 13 answer yes, so its place among them is the same.
+-- A write to a CSR of the controller: 14 and the controller's own. 14 is asked of 0xBCC alone, to which 12 and 13 answer yes, so its place among them is the
+-- same.
+unfoldable pub controllerWrite : Machine → ℕ → ℕ → Outcome
+controllerWrite m a v = ask m (mayWrite m a) 14 (lifted m (csrs.csrWriteOf (m .controller) a v))
+
+-- CSR write. 13 and 14 are asked of no CSR of a timer.
 unfoldable pub csrWriteEvent : Machine → ℕ → ℕ → Outcome
-csrWriteEvent m a v = ask m (mayWrite m a) 14 (lifted m (csrs.csrWriteOf (m .controller) a v))
+csrWriteEvent m a v =
+    cond (ofCounters a) (accepted (withCounters m (counters.csrWritten (m .counters) (counters.csrAt a) v)) 0) (controllerWrite m a v)
 
 -- One look at the controller.
 abbrev pub lookAt : Machine → Look
@@ -156,8 +169,12 @@ setMaskEvent m v =
     (ask m (eqb v 0 || isOpen m) 21
     (accepted (withMask m v) 0))
 
--- An event by its kind: 0 sample, 1 load, 2 store, 3 CSR read, 4 CSR write, 5 take, 6 open, 7 chain, 8 return, 9 set mask to the value. A kind that there is not is
--- refused with 6.
+-- Clock: it is asked nothing more, and changes the timers alone. Answer: bit 0 for timer 0, bit 1 for timer 1.
+unfoldable pub clockEvent : Machine → Outcome
+clockEvent m = accepted (withCounters m (timers.clockOf (m .counters) .counters)) (timers.clockOf (m .counters) .answer)
+
+-- An event by its kind: 0 sample, 1 load, 2 store, 3 CSR read, 4 CSR write, 5 take, 6 open, 7 chain, 8 return, 9 set mask to the value, 10 clock. A kind that there
+-- is not is refused with 6.
 unfoldable pub eventOf : Machine → ℕ → ℕ → ℕ → Outcome
 eventOf m kind address value =
     cond (eqb kind 0) (sampleEvent m address value)
@@ -170,7 +187,8 @@ eventOf m kind address value =
     (cond (eqb kind 7) (chainEvent m)
     (cond (eqb kind 8) (returnEvent m)
     (cond (eqb kind 9) (setMaskEvent m value)
-    (refused m 6))))))))))
+    (cond (eqb kind 10) (clockEvent m)
+    (refused m 6)))))))))))
 
 -- An event on a machine that is known to be sound: 6 and 7, then its kind's.
 unfoldable pub soundStepOf : Machine → ℕ → ℕ → Outcome

@@ -1,7 +1,7 @@
 // The published events of the machine, an event of any kind, and the margin query. Each asks question 8 first.
 
 ghost use mathlib.Core.Path.{_≡_};
-ghost use Rattle.handlers.specs.Calls.{sampleOf, loadOf, storeOf, csrReadOf, csrWriteOf, takeOf, openOf, chainOf, returnOf, setMaskOf, stepOf, marginAnswer};
+ghost use Rattle.handlers.specs.Calls.{sampleOf, loadOf, storeOf, csrReadOf, csrWriteOf, takeOf, openOf, chainOf, returnOf, setMaskOf, clockOf, stepOf, marginAnswer};
 use crate::Machine;
 use crate::Margin;
 use crate::Outcome;
@@ -105,6 +105,16 @@ impl Machine {
             return self.refuse(8);
         }
         self.set_mask_event(v)
+    }
+
+    // One clock of the timers.
+    pub fn clock(mut self) -> Outcome
+        ensures { λ r. ⌜ r ≡ clockOf self ⌝ }
+    {
+        if !self.is_sound() {
+            return self.refuse(8);
+        }
+        self.clock_event()
     }
 
     // One event, a head and a value: the machine that it hands back, its answer and its refusal.

@@ -1,10 +1,13 @@
-// The controller's events on the machine, and an event of any kind: what they do once question 8 is answered yes.
+// The events of the controller and of the timers on the machine, and an event of any kind: what they do once question 8 is answered yes.
 
 ghost use mathlib.Core.Path.{_≡_};
-ghost use Rattle.handlers.specs.Fields.{withController};
-ghost use Rattle.handlers.specs.Service.{lifted, sampleEvent, loadEvent, storeEvent, csrReadEvent, csrWriteEvent, soundStepOf};
+ghost use Rattle.handlers.specs.Fields.{withController, withCounters};
+ghost use Rattle.handlers.specs.Service.{lifted, sampleEvent, loadEvent, storeEvent, csrReadEvent, controllerWrite, csrWriteEvent, clockEvent, soundStepOf};
 use crate::Machine;
 use crate::Outcome;
+use counters::Counters;
+use counters::csrs::csr_at;
+use counters::csrs::is_csr;
 use pic::Controller;
 
 impl Machine {
@@ -13,12 +16,22 @@ impl Machine {
         ensures { λ m. ⌜ m ≡ withController self c ⌝ }
     {
         let s = self.stack;
+        let t = self.counters;
         Machine {
             controller: c,
             mask: self.mask,
             depth: self.depth,
             stack: s,
+            counters: t,
         }
+    }
+
+    // The machine with other counters.
+    fn with_counters(mut self, t: Counters) -> Machine
+        ensures { λ m. ⌜ m ≡ withCounters self t ⌝ }
+    {
+        self.counters = t;
+        self
     }
 
     // The machine with the controller that an event of its own handed back.
@@ -56,6 +69,11 @@ impl Machine {
     pub(crate) fn csr_read_event(self, address: u32) -> Outcome
         ensures { λ r. ⌜ r ≡ csrReadEvent self address ⌝ }
     {
+        let csr = csr_at(address);
+        if is_csr(csr) {
+            let t = self.counters;
+            return self.accept(t.csr_value(csr));
+        }
         let c = self.controller;
         self.lift(pic_csrs::csr_read(c, address))
     }
@@ -63,11 +81,32 @@ impl Machine {
     pub(crate) fn csr_write_event(self, address: u32, v: u32) -> Outcome
         ensures { λ r. ⌜ r ≡ csrWriteEvent self address v ⌝ }
     {
+        let csr = csr_at(address);
+        if is_csr(csr) {
+            let t = self.counters;
+            return self.with_counters(t.csr_written(csr, v)).accept(0);
+        }
+        self.controller_write(address, v)
+    }
+
+    // A write of v to a CSR of the controller.
+    fn controller_write(self, address: u32, v: u32) -> Outcome
+        ensures { λ r. ⌜ r ≡ controllerWrite self address v ⌝ }
+    {
         if (address == 0xBCC) & (self.depth != 0) {
             return self.refuse(14);
         }
         let c = self.controller;
         self.lift(pic_csrs::csr_write(c, address, v))
+    }
+
+    pub(crate) fn clock_event(self) -> Outcome
+        ensures { λ r. ⌜ r ≡ clockEvent self ⌝ }
+    {
+        let t = self.counters;
+        let out = t.clock();
+        let next = out.counters;
+        self.with_counters(next).accept(out.answer)
     }
 
     // One event, a head and a value, on a machine that is known to be sound: 6 and 7, then the event by its kind.
@@ -90,6 +129,7 @@ impl Machine {
             7 => self.chain_event(),
             8 => self.return_event(),
             9 => self.set_mask_event(value),
+            10 => self.clock_event(),
             _ => self.refuse(6),
         }
     }

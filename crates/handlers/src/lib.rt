@@ -1,4 +1,4 @@
-// The machine: the interrupt controller with its mask and its stack of handlers, and the handler service.
+// The machine: the interrupt controller with its mask, its stack of handlers and its timers, and the handler service.
 
 mod calls;
 mod checking;
@@ -6,6 +6,7 @@ mod events;
 mod service;
 mod sound;
 
+use counters::Counters;
 use handlers_stack::Handler;
 use pic::Controller;
 
@@ -15,6 +16,7 @@ pub struct Machine {
     pub mask: u8,
     pub depth: u8,
     pub stack: [Handler; 15],
+    pub counters: Counters,
 }
 
 // What an event hands back. A refused one answers 0 and hands back the machine as it was.

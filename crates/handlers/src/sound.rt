@@ -5,6 +5,7 @@ ghost use Rattle.handlers.specs.Machines.{powerOnOf, soundOf};
 ghost use Rattle.handlers.specs.Service.{accepted, refused};
 use crate::Machine;
 use crate::Outcome;
+use counters::Counters;
 use handlers_stack::handlers_sound;
 use handlers_stack::level;
 use handlers_stack::no_handler;
@@ -39,11 +40,13 @@ impl Machine {
         let on = Controller::power_on(n);
         let c = on.controller;
         let h = no_handler();
+        let t = Counters::reset();
         let m = Machine {
             controller: c,
             mask: 0,
             depth: 0,
             stack: [h; 15],
+            counters: t,
         };
         Outcome {
             machine: m,
@@ -59,6 +62,7 @@ impl Machine {
         let d = self.depth;
         let s = self.stack;
         let c = self.controller;
+        let t = self.counters;
         let h = uppermost(s, d);
         let l = level(h);
         let current = c.current_rank();
@@ -68,5 +72,6 @@ impl Machine {
             & ((d == 0) | (current.0 == l.0))
             & ((self.mask == 0) | ((d == 0) | (h.opened == 1)))
             & c.is_sound()
+            & t.is_sound()
     }
 }

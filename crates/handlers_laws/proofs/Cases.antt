@@ -10,33 +10,55 @@ use borrow.Author.Tests.{eqb-true, eqb-false}
 use Rattle.event.specs.Event.{kindOf, addressOf, shapeOf}
 use Rattle.pic_registers.specs.Calls as registers
 use Rattle.pic_csrs.specs.Calls as csrs
+use Rattle.counters.specs.Timers as timers
+use Rattle.counters.specs.Csrs as counters
 use Rattle.handlers.specs.declared.Machine.{Machine}
 use Rattle.handlers.specs.declared.Outcome.{Outcome}
-use Rattle.handlers.specs.Fields.{withMask}
+use Rattle.handlers.specs.Fields.{withMask, withCounters}
 use Rattle.handlers.specs.Machines.{uppermost, isOpen, soundOf}
-use Rattle.handlers.specs.Service.{accepted, refused, ask, lifted, mayWrite, hasHandler, lookAt, taken, opened, serves, captured, chained, returned, sampleEvent, loadEvent, storeEvent, csrReadEvent, csrWriteEvent, takeEvent, openEvent, chainEvent, returnEvent, setMaskEvent, eventOf, soundStepOf}
+use Rattle.handlers.specs.Service.{accepted, refused, ask, lifted, ofCounters, mayWrite, controllerWrite, hasHandler, lookAt, taken, opened, serves, captured, chained, returned, sampleEvent, loadEvent, storeEvent, csrReadEvent, csrWriteEvent, takeEvent, openEvent, chainEvent, returnEvent, setMaskEvent, clockEvent, eventOf, soundStepOf}
 use Rattle.handlers.specs.Calls.{stepOf}
 
--- The ways of an event of this address and value on the machine m, by its kind. A controller's own event may still be refused by the controller.
+-- The ways of an event of this address and value on the machine m, by its kind. A controller's own event may still be refused by the controller. A CSR is the
+-- counters' or the controller's.
 pub record Cases (m : Machine) (a v : ℕ) (P : ℕ → Outcome → Type 0) : Type 0 where
   pub refuses : (k q : ℕ) → (q ≡ 0 → ⊥) → P k (refused m q)
   pub samples : P 0 (lifted m (registers.sampleOf (m .controller) a v))
   pub loads : P 1 (lifted m (registers.loadOf (m .controller) a))
   pub stores : P 2 (lifted m (registers.storeOf (m .controller) a v))
   pub reads : P 3 (lifted m (csrs.csrReadOf (m .controller) a))
+  pub counter-reads : ofCounters a ≡ true → P 3 (accepted m (counters.csrValue (m .counters) (counters.csrAt a)))
   pub writes : mayWrite m a ≡ true → P 4 (lifted m (csrs.csrWriteOf (m .controller) a v))
+  pub counter-writes : ofCounters a ≡ true → P 4 (accepted (withCounters m (counters.csrWritten (m .counters) (counters.csrAt a) v)) 0)
   pub takes : eqb (m .mask) 1 ≡ true → ltZ (pos 0) (lookAt m .margin) ≡ true → P 5 (accepted (taken m) (lookAt m .meihap))
   pub opens : hasHandler m ≡ true → P 6 (accepted (opened m) (uppermost m .rank .0))
   pub chains : hasHandler m ≡ true → serves m ≡ true → P 7 (accepted (chained m) (lookAt m .meihap))
   pub passes : P 7 (accepted (captured m) 0)
   pub returns : hasHandler m ≡ true → P 8 (accepted (returned m) (m .depth - 1))
   pub masks : leb v 1 ≡ true → (eqb v 0 || isOpen m) ≡ true → P 9 (accepted (withMask m v) 0)
+  pub clocks : P 10 (accepted (withCounters m (timers.clockOf (m .counters) .counters)) (timers.clockOf (m .counters) .answer))
 
 module _ (m : Machine) (a v : ℕ) (P : ℕ → Outcome → Type 0) (h : Cases m a v P) where
   -- A question of an event of kind k.
   ask-case : (k : ℕ) (t : Bool) (q : ℕ) (o : Outcome) → (q ≡ 0 → ⊥) → (t ≡ true → P k o) → P k (ask m t q o)
   ask-case k true q o n f = f refl
   ask-case k false q o n f = h .refuses k q n
+
+  -- A CSR of the counters, or of the controller.
+  csr-case : (k : ℕ) (x y : Outcome) → (ofCounters a ≡ true → P k x) → P k y → P k (cond (ofCounters a) x y)
+  csr-case k x y p q = go (ofCounters a) refl
+    where
+      go : (t : Bool) → ofCounters a ≡ t → P k (cond t x y)
+      go true e = p e
+      go false e = q
+
+  read-case : P 3 (csrReadEvent m a)
+  unfolding csrReadEvent
+  read-case = csr-case 3 _ _ (λ e. h .counter-reads e) (h .reads)
+
+  write-case : P 4 (csrWriteEvent m a v)
+  unfolding csrWriteEvent controllerWrite
+  write-case = csr-case 4 _ _ (λ e. h .counter-writes e) (ask-case 4 (mayWrite m a) 14 _ (λ e. omega arith) (λ f. h .writes f))
 
   take-case : P 5 (takeEvent m)
   unfolding takeEvent
@@ -71,19 +93,20 @@ module _ (m : Machine) (a v : ℕ) (P : ℕ → Outcome → Type 0) (h : Cases m
       go false e = rw e q
 
   event-case : (k : ℕ) → P k (eventOf m k a v)
-  unfolding eventOf sampleEvent loadEvent storeEvent csrReadEvent csrWriteEvent
+  unfolding eventOf sampleEvent loadEvent storeEvent clockEvent
   event-case k =
       choose k 0 _ _ (h .samples)
       (choose k 1 _ _ (h .loads)
       (choose k 2 _ _ (h .stores)
-      (choose k 3 _ _ (h .reads)
-      (choose k 4 _ _ (ask-case 4 (mayWrite m a) 14 _ (λ e. omega arith) (λ f. h .writes f))
+      (choose k 3 _ _ read-case
+      (choose k 4 _ _ write-case
       (choose k 5 _ _ take-case
       (choose k 6 _ _ open-case
       (choose k 7 _ _ chain-case
       (choose k 8 _ _ return-case
       (choose k 9 _ _ mask-case
-      (h .refuses k 6 (λ e. omega arith)))))))))))
+      (choose k 10 _ _ (h .clocks)
+      (h .refuses k 6 (λ e. omega arith))))))))))))
 
 -- What is shown of each way holds of every event.
 pub step-cases : (m : Machine) (head value : ℕ) (P : ℕ → Outcome → Type 0) → Cases m (addressOf head) value P → P (kindOf head) (stepOf m head value)

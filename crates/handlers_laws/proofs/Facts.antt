@@ -14,9 +14,12 @@ use Rattle.pic_source.proofs.Bools.{or-cases, or-intro, all-at}
 use Rattle.pic.specs.Sound as pic
 use Rattle.pic.specs.Calls.{sourceCount, currentRank}
 use Rattle.pic_laws.proofs.Captures.{look-found, margin-over}
+use Rattle.counters.specs.declared.Counters.{Counters}
+use Rattle.counters.specs.Timers as timers
 use Rattle.handlers_stack.specs.Stacks.{levelOf}
 use Rattle.handlers_stack.proofs.Stacks.{Fine, each, each-back, rank-high, level-opened}
 use Rattle.handlers.specs.declared.Machine.{Machine}
+use Rattle.handlers.specs.Fields.{withCounters}
 use Rattle.handlers.specs.Machines.{uppermost, isOpen, soundTests, soundOf}
 use Rattle.handlers.specs.Service.{lookAt}
 
@@ -27,6 +30,7 @@ pub record Sound (m : Machine) : Type 0 where
   pub current : (m .depth ≡ 0) ⊎ (currentRank (m .controller) .0 ≡ levelOf (uppermost m) .0)
   pub masked : (m .mask ≡ 0) ⊎ ((m .depth ≡ 0) ⊎ (uppermost m .opened ≡ 1))
   pub controller : pic.soundOf (m .controller) ≡ true
+  pub counters : timers.soundOf (m .counters) ≡ true
 
 -- There is no handler, or the uppermost is opened.
 pub open-cases : (m : Machine) → isOpen m ≡ true → (m .depth ≡ 0) ⊎ (uppermost m .opened ≡ 1)
@@ -50,6 +54,7 @@ facts m e =
           (or-cases (eqb (m .depth) 0) (eqb (currentRank (m .controller) .0) (levelOf (uppermost m) .0)) (t 3));
       masked = ⊎-elim (λ f. inl (eqb-true (m .mask) 0 f)) (λ f. inr (open-cases m f)) (or-cases (eqb (m .mask) 0) (isOpen m) (t 4));
       controller = t 5;
+      counters = t 6;
     }
   where
     t : (i : ℕ) → getD (soundTests m) i true ≡ true
@@ -65,8 +70,24 @@ sound m f =
       or-intro (eqb (m .depth) 0) (eqb (currentRank (m .controller) .0) (levelOf (uppermost m) .0))
           (⊎-elim (λ e. inl (eq-eqb (m .depth) 0 e)) (λ e. inr (eq-eqb _ _ e)) (f .current)),
       or-intro (eqb (m .mask) 0) (isOpen m) (⊎-elim (λ e. inl (eq-eqb (m .mask) 0 e)) (λ e. inr (open-test m e)) (f .masked)),
+      f .controller,
     )
-    (f .controller)
+    (f .counters)
+
+-- Other sound counters.
+pub counters-sound : (m : Machine) (t : Counters) → soundOf m ≡ true → timers.soundOf t ≡ true → soundOf (withCounters m t) ≡ true
+counters-sound m t e h =
+    let f = facts m e in
+    sound (withCounters m t)
+    (record {
+      few = f .few;
+      bit = f .bit;
+      handlers = f .handlers;
+      current = f .current;
+      masked = f .masked;
+      controller = f .controller;
+      counters = h;
+    })
 
 -- The uppermost handler.
 pub top-fine : (m : Machine) → Sound m → 0 < m .depth → Fine (sourceCount (m .controller)) (m .depth) (m .stack) (m .depth - 1)

@@ -16,6 +16,11 @@ use Rattle.pic_source.specs.declared.Rank.{Rank}
 use Rattle.pic.specs.Sound as pic
 use Rattle.pic.specs.Calls.{sourceCount, currentRank, captureOf}
 use Rattle.pic_csrs.specs.Calls as csrs
+use Rattle.counters.specs.declared.Counters.{Counters}
+use Rattle.counters.specs.Timers as timers
+use Rattle.counters.specs.Csrs as counters
+use Rattle.counters.proofs.Clocks.{reset-sound, clock-sound}
+use Rattle.counters.proofs.Writes.{written-sound}
 use Rattle.pic_source.proofs.Bools.{and-parts, or-cases, eq-cases}
 use Rattle.pic_laws.proofs.Kept.{sample-sound, sample-count, sample-current, store-sound, store-count, store-current, csr-write-sound, csr-write-count, csr-write-current, load-same, csr-read-same, capture-sound, capture-count, capture-current, current-sound, current-count, current-is, power-on-sound}
 use Rattle.pic_laws.proofs.Captures.{look-found, margin-over}
@@ -23,12 +28,12 @@ use Rattle.handlers_stack.specs.declared.Handler.{Handler}
 use Rattle.handlers_stack.specs.Stacks.{blank, handlerAt, belowOf, levelOf}
 use Rattle.handlers_stack.proofs.Stacks.{Fine, Stored, fine-kept, fine-stored, fine-popped, below-next, level-opened, level-unopened, level-same}
 use Rattle.handlers.specs.declared.Machine.{Machine}
-use Rattle.handlers.specs.Fields.{withController, withMask}
+use Rattle.handlers.specs.Fields.{withController, withMask, withCounters}
 use Rattle.handlers.specs.Machines.{uppermost, isOpen, soundOf, powerOnOf}
 use Rattle.handlers.specs.Service.{lifted, mayWrite, lookAt, newHandler, oneMore, taken, marked, opened, serves, replaced, captured, chained, returned}
 use Rattle.handlers.specs.Calls.{stepOf}
 use Rattle.handlers_laws.proofs.Cases.{step-cases}
-use Rattle.handlers_laws.proofs.Facts.{Sound, facts, sound, top-fine, open-cases, room}
+use Rattle.handlers_laws.proofs.Facts.{Sound, facts, sound, counters-sound, top-fine, open-cases, room}
 
 -- A sound machine whose stack has its fifteen places.
 pub record Ready (m : Machine) : Type 0 where
@@ -51,6 +56,7 @@ with-controller m c r e n k =
       current = ⊎-elim (λ z. inl z) (λ z. ⊎-elim (λ g. inl g) (λ g. inr (ap (λ (a : Rank). a .0) z ∙ g)) (f .current)) k;
       masked = f .masked;
       controller = e;
+      counters = f .counters;
     })
     (r .places)
 
@@ -140,6 +146,7 @@ module _ (m : Machine) (r : Ready m) (h : m .mask ≡ 0 → ⊥) (g : ltZ (pos 0
         current = inr (ap (λ (a : Rank). a .0) (capture-current (m .controller)) ∙ taken-level);
         masked = inl refl;
         controller = capture-sound (m .controller) (s .controller);
+        counters = s .counters;
       })
       (simp length-set (r .places))
 
@@ -193,6 +200,7 @@ opened-ready m r d =
           ∙ ap (λ (z : Handler). levelOf z .0) (sym e));
       masked = inr (inr (ap (λ (z : Handler). z .opened) e));
       controller = current-sound (m .controller) (s .controller) (uppermost m .rank) (t .rank-most);
+      counters = s .counters;
     })
     (simp length-set (r .places))
 
@@ -229,6 +237,7 @@ returned-ready m r d =
           k;
       masked = inr (⊎-elim (λ e. inl e) (λ e. inr (e .0)) k);
       controller = current-sound (m .controller) (s .controller) (uppermost m .saved) (omega (arith, t .rank-most, t .saved-less));
+      counters = s .counters;
     })
     (r .places)
 
@@ -259,6 +268,7 @@ chained-ready m r d e =
       current = ⊎-elim (λ y. inl y) (λ y. inr (y ∙ ap (λ (a : Rank). a .0) (sym l))) (f .current);
       masked = ⊎-elim (λ y. inl y) (λ y. inr (⊎-elim (λ w. inl w) (λ w. inr (ap (λ (a : Handler). a .opened) z ∙ w)) y)) (f .masked);
       controller = f .controller;
+      counters = f .counters;
     })
     (simp length-set (r .places))
 
@@ -274,10 +284,15 @@ masked-ready m r v l e =
       current = f .current;
       masked = ⊎-elim (λ z. inl (eqb-true v 0 z)) (λ z. inr (open-cases m z)) (or-cases (eqb v 0) (isOpen m) e);
       controller = f .controller;
+      counters = f .counters;
     })
     (r .places)
 
--- The controller's own events.
+-- Other counters.
+with-counters : (m : Machine) (t : Counters) → Ready m → timers.soundOf t ≡ true → Ready (withCounters m t)
+with-counters m t r e = record { isSound = counters-sound m t (r .isSound) e; places = r .places }
+
+-- The controller's own events, and those of the timers.
 module _ (m : Machine) (r : Ready m) where
   is-sound-controller : pic.soundOf (m .controller) ≡ true
   is-sound-controller = facts m (r .isSound) .controller
@@ -307,13 +322,16 @@ module _ (m : Machine) (r : Ready m) where
             with-controller m _ r (store-sound (m .controller) is-sound-controller a v) (store-count (m .controller) a v)
             (inr (store-current (m .controller) a v));
         reads = same-ready _ (csr-read-same (m .controller) a);
+        counter-reads = λ f. r;
         writes = λ f. write-ready a v b f;
+        counter-writes = λ f. with-counters m _ r (written-sound (m .counters) (counters.csrAt a) v f b (facts m (r .isSound) .counters));
         takes = λ f g. taken-ready m r (λ z. let o = eqb-true (m .mask) 1 f in omega arith) g;
         opens = λ f. opened-ready m r (ltb-true 0 (m .depth) f);
         chains = λ f e. chained-ready m r (ltb-true 0 (m .depth) f) e;
         passes = captured-ready m r;
         returns = λ f. returned-ready m r (ltb-true 0 (m .depth) f);
         masks = λ f g. masked-ready m r v f g;
+        clocks = with-counters m _ r (clock-sound (m .counters) (facts m (r .isSound) .counters));
       })
 
 -- Power-on is sound, also with an N that it refuses.
@@ -328,6 +346,7 @@ power-on-ready n =
       current = inl refl;
       masked = inl refl;
       controller = power-on-sound n;
+      counters = reset-sound;
     })
     refl
 

@@ -42,12 +42,15 @@ latches-follow m head v e accepted s a b =
       loads = λ z. same m e s a b (registers.loadOf c o .controller) (load-same c o);
       stores = store-follows c (sound-controller m e s a b) s a b o v;
       reads = λ z. same m e s a b (csrs.csrReadOf c o .controller) (csr-read-same c o);
+      counter-reads = λ f z. quiet m e s a b c refl;
       writes = λ f z. quiet m e s a b (csrs.csrWriteOf c o v .controller) (csr-write-arrays c o v);
+      counter-writes = λ f z. quiet m e s a b c refl;
       takes = λ f g z. quiet m e s a b (captureOf c (lookAt m .winner)) (capture-arrays c (lookAt m .winner));
       opens = λ f z. quiet m e s a b (setCurrent c (uppermost m .rank)) (current-arrays c (uppermost m .rank));
       chains = λ f g z. quiet m e s a b (captureOf c (lookAt m .winner)) (capture-arrays c (lookAt m .winner));
       passes = λ z. quiet m e s a b (captureOf c (lookAt m .winner)) (capture-arrays c (lookAt m .winner));
       returns = λ f z. quiet m e s a b (setCurrent c (uppermost m .saved)) (current-arrays c (uppermost m .saved));
       masks = λ f g z. quiet m e s a b c refl;
+      clocks = λ z. quiet m e s a b c refl;
     })
     accepted

@@ -7,3 +7,4 @@ pub mod Checks
 pub mod Latches
 pub mod Ranks
 pub mod Values
+pub mod Timers

@@ -29,13 +29,16 @@ rank-kept m head v s d =
       loads = λ z. ap (λ (x : Controller). rankAt x s) (load-same c o);
       stores = λ z. store-rank-kept c o v s (z refl);
       reads = λ z. ap (λ (x : Controller). rankAt x s) (csr-read-same c o);
+      counter-reads = λ f z. refl;
       writes = λ f z. arrays-rank c (csrs.csrWriteOf c o v .controller) (csr-write-arrays c o v) s;
+      counter-writes = λ f z. refl;
       takes = λ f g z. arrays-rank c (captureOf c (lookAt m .winner)) (capture-arrays c (lookAt m .winner)) s;
       opens = λ f z. arrays-rank c (setCurrent c (uppermost m .rank)) (current-arrays c (uppermost m .rank)) s;
       chains = λ f g z. arrays-rank c (captureOf c (lookAt m .winner)) (capture-arrays c (lookAt m .winner)) s;
       passes = λ z. arrays-rank c (captureOf c (lookAt m .winner)) (capture-arrays c (lookAt m .winner)) s;
       returns = λ f z. arrays-rank c (setCurrent c (uppermost m .saved)) (current-arrays c (uppermost m .saved)) s;
       masks = λ f g z. refl;
+      clocks = λ z. refl;
     })
     d
 

@@ -23,13 +23,16 @@ module _ (m : Machine) where
         loads = λ d. ap (withController m) (load-same (m .controller) a);
         stores = λ d. ap (withController m) (store-refused (m .controller) a v d);
         reads = λ d. ap (withController m) (csr-read-same (m .controller) a);
+        counter-reads = λ f d. refl;
         writes = λ f d. ap (withController m) (csr-write-refused (m .controller) a v d);
+        counter-writes = λ f d. absurd (d refl);
         takes = λ f g d. absurd (d refl);
         opens = λ f d. absurd (d refl);
         chains = λ f e d. absurd (d refl);
         passes = λ d. absurd (d refl);
         returns = λ f d. absurd (d refl);
         masks = λ f g d. absurd (d refl);
+        clocks = λ d. absurd (d refl);
       })
 
   -- An unsound machine gets 8, and is handed back as it was.

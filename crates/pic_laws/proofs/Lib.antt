@@ -3,3 +3,4 @@ pub mod Kept
 pub mod Captures
 pub mod Sources
 pub mod Values
+pub mod Csrs

@@ -57,6 +57,9 @@ pub trait Play {
     fn set_mask(&mut self, value: u32) -> Outcome {
         self.act(SET_MASK, 0, value)
     }
+    fn clock(&mut self) -> Outcome {
+        self.act(CLOCK, 0, 0)
+    }
 
     /// Ranks and enables a source.
     fn prepare(&mut self, source: u32, field: u32) {

@@ -21,9 +21,12 @@ handlers-sound-requires c κs = search needs
 is-sound-requires : tie.Need-is-sound-requires
 is-sound-requires c κs = search needs
 
+is-sound-requires-2 : tie.Need-is-sound-requires-2
+is-sound-requires-2 c κs = search needs
+
 returns : tie.Need-returns
 unfolding soundOf
-returns c = rw (c .is-sound .ensures, c .before .before .before .before .before .handlers-sound .ensures, c .before .before .before .before .before .before .source-count .ensures, c .before .before .before .before .before .before .before .before .current-rank .ensures, c .before .before .before .before .before .before .before .before .before .level .ensures, c .before .before .before .before .before .before .before .before .before .before .uppermost .ensures)
+returns c = rw (c .is-sound2 .ensures, c .before .is-sound .ensures, c .before .before .before .before .before .before .handlers-sound .ensures, c .before .before .before .before .before .before .before .source-count .ensures, c .before .before .before .before .before .before .before .before .before .current-rank .ensures, c .before .before .before .before .before .before .before .before .before .before .level .ensures, c .before .before .before .before .before .before .before .before .before .before .before .uppermost .ensures)
 
 pub is-sound-spec : {M : Type 1} → statement M
 is-sound-spec =
@@ -35,4 +38,5 @@ is-sound-spec =
     source-count-requires
     handlers-sound-requires
     is-sound-requires
+    is-sound-requires-2
     returns)

@@ -9,9 +9,12 @@ power-on-requires c κs = search needs
 no-handler-requires : tie.Need-no-handler-requires
 no-handler-requires c κs = search needs
 
+reset-requires : tie.Need-reset-requires
+reset-requires c κs = search needs
+
 returns : tie.Need-returns
 unfolding powerOnOf
-returns c = rw (c .no-handler .ensures, c .before .before .power-on .ensures)
+returns c = rw (c .reset .ensures, c .before .no-handler .ensures, c .before .before .before .power-on .ensures)
 
 pub power-on-spec : {M : Type 1} → statement M
-power-on-spec = tie.close (tie.spec power-on-requires no-handler-requires returns)
+power-on-spec = tie.close (tie.spec power-on-requires no-handler-requires reset-requires returns)

@@ -50,6 +50,9 @@ return-event-requires c κs = search needs
 set-mask-event-requires : tie.Need-set-mask-event-requires
 set-mask-event-requires c κs = search needs
 
+clock-event-requires : tie.Need-clock-event-requires
+clock-event-requires c κs = search needs
+
 refuse-requires-2 : tie.Need-refuse-requires-2
 refuse-requires-2 c κs = search needs
 
@@ -95,9 +98,13 @@ returns-11 c = rw (← c .before .before .before .before .before .shape .ensures
 
 returns-12 : tie.Need-returns-12
 unfolding soundStepOf eventOf
-returns-12 c =
+returns-12 c = rw (← c .before .before .before .before .before .shape .ensures, eq-eqb _ _ (c .before .before .before .before .if1 .left), ← c .before .before .kind .ensures, c .before .match .keys11) (c .clock-event .ensures)
+
+returns-13 : tie.Need-returns-13
+unfolding soundStepOf eventOf
+returns-13 c =
     let r = c .before .match .rest in
-    rw (← c .before .before .before .before .before .shape .ensures, eq-eqb _ _ (c .before .before .before .before .if1 .left), ← c .before .before .kind .ensures, ne-eqb _ _ (r .0 .0 .0 .0 .0 .0 .0 .0 .0 .1), ne-eqb _ _ (r .0 .0 .0 .0 .0 .0 .0 .0 .1), ne-eqb _ _ (r .0 .0 .0 .0 .0 .0 .0 .1), ne-eqb _ _ (r .0 .0 .0 .0 .0 .0 .1), ne-eqb _ _ (r .0 .0 .0 .0 .0 .1), ne-eqb _ _ (r .0 .0 .0 .0 .1), ne-eqb _ _ (r .0 .0 .0 .1), ne-eqb _ _ (r .0 .0 .1), ne-eqb _ _ (r .0 .1), ne-eqb _ _ (r .1)) (c .refuse2 .ensures)
+    rw (← c .before .before .before .before .before .shape .ensures, eq-eqb _ _ (c .before .before .before .before .if1 .left), ← c .before .before .kind .ensures, ne-eqb _ _ (r .0 .0 .0 .0 .0 .0 .0 .0 .0 .0 .1), ne-eqb _ _ (r .0 .0 .0 .0 .0 .0 .0 .0 .0 .1), ne-eqb _ _ (r .0 .0 .0 .0 .0 .0 .0 .0 .1), ne-eqb _ _ (r .0 .0 .0 .0 .0 .0 .0 .1), ne-eqb _ _ (r .0 .0 .0 .0 .0 .0 .1), ne-eqb _ _ (r .0 .0 .0 .0 .0 .1), ne-eqb _ _ (r .0 .0 .0 .0 .1), ne-eqb _ _ (r .0 .0 .0 .1), ne-eqb _ _ (r .0 .0 .1), ne-eqb _ _ (r .0 .1), ne-eqb _ _ (r .1)) (c .refuse2 .ensures)
 
 pub sound-step-spec : {M : Type 1} → statement M
 sound-step-spec =
@@ -118,6 +125,7 @@ sound-step-spec =
     chain-event-requires
     return-event-requires
     set-mask-event-requires
+    clock-event-requires
     refuse-requires-2
     returns-2
     returns-3
@@ -129,4 +137,5 @@ sound-step-spec =
     returns-9
     returns-10
     returns-11
-    returns-12)
+    returns-12
+    returns-13)

@@ -1,0 +1,44 @@
+-- Document 02, No. 1: "counter, bound and control for timers 0 and 1, CSRs 0x7D2 to 0x7D7, fields as [document 004's] tables 4-1 to 4-3".
+use Prim.Native.Nat.{ℕ, _+_, _-_, _*_, _/_, _%_}
+use mathlib.Core.Bool.{Bool, false, cond, _&&_}
+use lib.Dec.{leb, ltb, eqb}
+use Rattle.counters.specs.declared.Counters.{Counters}
+use Rattle.counters.specs.declared.Csr.{Csr}
+use Rattle.counters.specs.declared.Csr.the-variants.{Mitcnt, Mitb, Mitctl, NoCsr}
+use Rattle.counters.specs.Timers.{withCount, withBound, withControl, timerAt, withTimer}
+
+-- Timer i has three CSRs in a row, from 0x7D2 + 3 × i on: mitcnt, its counter; mitb, its bound; mitctl, its control.
+abbrev pub csrAddress : Csr → ℕ
+csrAddress (Mitcnt i) = 0x7D2 + 3 * i
+csrAddress (Mitb i) = 0x7D2 + 3 * i + 1
+csrAddress (Mitctl i) = 0x7D2 + 3 * i + 2
+csrAddress NoCsr = 0
+
+-- Whether there is such a CSR: there are timers 0 and 1.
+abbrev pub isCsr : Csr → Bool
+isCsr (Mitcnt i) = ltb i 2
+isCsr (Mitb i) = ltb i 2
+isCsr (Mitctl i) = ltb i 2
+isCsr NoCsr = false
+
+-- The CSR of timer i that is k places on from its first.
+unfoldable pub csrOf : ℕ → ℕ → Csr
+csrOf i k = cond (eqb k 0) (Mitcnt i) (cond (eqb k 1) (Mitb i) (Mitctl i))
+
+-- The CSR that has an address. `address-csr` and `csr-address` of the laws say that it is the one whose address it is.
+unfoldable pub csrAt : ℕ → Csr
+csrAt a = cond (leb 0x7D2 a && ltb a 0x7D8) (csrOf ((a - 0x7D2) / 3) ((a - 0x7D2) % 3)) NoCsr
+
+-- What a CSR reads.
+unfoldable pub csrValue : Counters → Csr → ℕ
+csrValue c (Mitcnt i) = timerAt c i .count
+csrValue c (Mitb i) = timerAt c i .bound
+csrValue c (Mitctl i) = timerAt c i .control
+csrValue c NoCsr = 0
+
+-- What a CSR write changes. mitcnt and mitb take all 32 bits; of mitctl bits 2:0 are kept, the others dropped and read 0.
+unfoldable pub csrWritten : Counters → Csr → ℕ → Counters
+csrWritten c (Mitcnt i) v = withTimer c i (withCount (timerAt c i) v)
+csrWritten c (Mitb i) v = withTimer c i (withBound (timerAt c i) v)
+csrWritten c (Mitctl i) v = withTimer c i (withControl (timerAt c i) (v % 8))
+csrWritten c NoCsr v = c

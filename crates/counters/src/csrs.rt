@@ -1,0 +1,78 @@
+// The CSRs of the counters: which has an address, what it reads, what a write changes.
+
+ghost use mathlib.Core.Path.{_≡_};
+ghost use Rattle.counters.specs.Csrs.{isCsr, csrOf, csrAt, csrValue, csrWritten};
+use crate::Counters;
+use crate::Csr;
+
+// The CSR of timer i that is k places on from its first.
+fn csr_of(i: u8, k: u32) -> Csr
+    ensures { λ r. ⌜ r ≡ csrOf i k ⌝ }
+{
+    match k {
+        0 => Csr::Mitcnt(i),
+        1 => Csr::Mitb(i),
+        _ => Csr::Mitctl(i),
+    }
+}
+
+// The CSR that has an address.
+pub fn csr_at(address: u32) -> Csr
+    ensures { λ r. ⌜ r ≡ csrAt address ⌝ }
+{
+    if (0x7D2 <= address) & (address < 0x7D8) {
+        let k = address - 0x7D2;
+        return csr_of((k / 3) as u8, k % 3);
+    }
+    Csr::NoCsr
+}
+
+// Whether there is such a CSR.
+pub fn is_csr(csr: Csr) -> bool
+    ensures { λ r. ⌜ r ≡ isCsr csr ⌝ }
+{
+    match csr {
+        Csr::Mitcnt(i) => i < 2,
+        Csr::Mitb(i) => i < 2,
+        Csr::Mitctl(i) => i < 2,
+        Csr::NoCsr => false,
+    }
+}
+
+impl Counters {
+    // What a CSR reads.
+    pub fn csr_value(self, csr: Csr) -> u32
+        ensures { λ r. ⌜ r ≡ csrValue self csr ⌝ }
+    {
+        match csr {
+            Csr::Mitcnt(i) => self.timer(i).count,
+            Csr::Mitb(i) => self.timer(i).bound,
+            Csr::Mitctl(i) => self.timer(i).control,
+            Csr::NoCsr => 0,
+        }
+    }
+
+    // A write of v to a CSR.
+    pub fn csr_written(self, csr: Csr, v: u32) -> Counters
+        ensures { λ r. ⌜ r ≡ csrWritten self csr v ⌝ }
+    {
+        match csr {
+            Csr::Mitcnt(i) => {
+                let mut t = self.timer(i);
+                t.count = v;
+                self.with_timer(i, t)
+            }
+            Csr::Mitb(i) => {
+                let mut t = self.timer(i);
+                t.bound = v;
+                self.with_timer(i, t)
+            }
+            Csr::Mitctl(i) => {
+                let mut t = self.timer(i);
+                t.control = v % 8;
+                self.with_timer(i, t)
+            }
+            Csr::NoCsr => self,
+        }
+    }
+}

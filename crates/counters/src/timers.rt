@@ -1,0 +1,110 @@
+// The timers: reset values, soundness, and one clock.
+
+ghost use mathlib.Core.Path.{_≡_};
+ghost use Rattle.counters.specs.Timers.{timerAt, withTimer, resetCounters, timerSound, soundOf, signalBit, nextCount, afterClock, clockOf};
+use crate::Clocked;
+use crate::Counters;
+use crate::Timer;
+
+impl Timer {
+    fn is_sound(self) -> bool
+        ensures { λ r. ⌜ r ≡ timerSound self ⌝ }
+    {
+        self.control <= 7
+    }
+
+    // 1 where the timer signals at a clock.
+    fn signal(self) -> u32
+        ensures { λ r. ⌜ r ≡ signalBit self ⌝ }
+    {
+        if self.bound <= self.count { 1 } else { 0 }
+    }
+
+    // The counter after a clock.
+    fn next_count(self) -> u32
+        ensures { λ r. ⌜ r ≡ nextCount self ⌝ }
+    {
+        if self.bound <= self.count {
+            return 0;
+        }
+        if self.control % 2 == 1 {
+            self.count + 1
+        } else {
+            self.count
+        }
+    }
+
+    // The timer after a clock.
+    fn clock(mut self) -> Timer
+        ensures { λ r. ⌜ r ≡ afterClock self ⌝ }
+    {
+        let n = self.next_count();
+        self.count = n;
+        self
+    }
+}
+
+impl Counters {
+    // The counters as power-on leaves them.
+    pub fn reset() -> Counters
+        ensures { λ r. ⌜ r ≡ resetCounters ⌝ }
+    {
+        let t = Timer {
+            count: 0,
+            bound: 0xFFFFFFFF,
+            control: 1,
+        };
+        Counters {
+            timer0: t,
+            timer1: t,
+        }
+    }
+
+    // Whether the counters are sound.
+    pub fn is_sound(self) -> bool
+        ensures { λ r. ⌜ r ≡ soundOf self ⌝ }
+    {
+        let t = self.timer0;
+        let u = self.timer1;
+        let a = t.is_sound();
+        let b = u.is_sound();
+        a & b
+    }
+
+    // Timer i.
+    pub(crate) fn timer(self, i: u8) -> Timer
+        ensures { λ r. ⌜ r ≡ timerAt self i ⌝ }
+    {
+        if i == 0 { self.timer0 } else { self.timer1 }
+    }
+
+    // The counters with t for timer i.
+    pub(crate) fn with_timer(mut self, i: u8, t: Timer) -> Counters
+        ensures { λ r. ⌜ r ≡ withTimer self i t ⌝ }
+    {
+        if i == 0 {
+            self.timer0 = t;
+            return self;
+        }
+        self.timer1 = t;
+        self
+    }
+
+    // One clock.
+    pub fn clock(self) -> Clocked
+        ensures { λ r. ⌜ r ≡ clockOf self ⌝ }
+    {
+        let t = self.timer0;
+        let u = self.timer1;
+        let next = Counters {
+            timer0: t.clock(),
+            timer1: u.clock(),
+        };
+        let a = t.signal();
+        let b = u.signal();
+        Clocked {
+            counters: next,
+            answer: a + 2 * b,
+        }
+    }
+}

@@ -1,0 +1,32 @@
+-- Question 12 as the controller asks it.
+use Prim.Native.Nat.{ℕ}
+use mathlib.Core.Path.{_≡_, refl}
+use mathlib.Core.Bool.{Bool, true, false, cond, not}
+use native.Mathlib.Omega.{arith}
+use lib.Dec.{eqb}
+use Rattle.pic.specs.declared.Controller.{Controller}
+use Rattle.pic.specs.Calls.{asks, accepts}
+use Rattle.pic_csrs.specs.Addresses.{csrAt, isCsr}
+use Rattle.pic_csrs.specs.Values.{csrValue}
+use Rattle.pic_csrs.specs.Calls.{csrReadOf, csrWriteOf, writtenTo}
+
+module _ (c : Controller) (a v : ℕ) where
+  pub read-12 : csrReadOf c a .refusal ≡ cond (isCsr (csrAt a)) 0 12
+  unfolding csrReadOf
+  read-12 = go (isCsr (csrAt a)) (csrValue (c .scalars) (csrAt a))
+    where
+      go : (t : Bool) (x : ℕ) → asks c t 12 (accepts c x) .refusal ≡ cond t 0 12
+      go true x = refl
+      go false x = refl
+
+  pub write-12 : isCsr (csrAt a) ≡ false → csrWriteOf c a v ≡ record { controller = c; answer = 0; refusal = 12 }
+  unfolding csrWriteOf
+  write-12 e = rw e
+
+  pub write-not-12 : isCsr (csrAt a) ≡ true → csrWriteOf c a v .refusal ≡ 12 → ⊥
+  unfolding csrWriteOf
+  write-not-12 e = rw e (go (not (eqb a 0xFC8)))
+    where
+      go : (t : Bool) → asks c t 13 (accepts (writtenTo c a v) 0) .refusal ≡ 12 → ⊥
+      go true h = omega (arith, h)
+      go false h = omega (arith, h)
