@@ -12,18 +12,11 @@ use pic::Controller;
 
 impl Machine {
     // The machine with another controller.
-    pub(crate) fn with_controller(self, c: Controller) -> Machine
+    pub(crate) fn with_controller(mut self, c: Controller) -> Machine
         ensures { λ m. ⌜ m ≡ withController self c ⌝ }
     {
-        let s = self.stack;
-        let t = self.counters;
-        Machine {
-            controller: c,
-            mask: self.mask,
-            depth: self.depth,
-            stack: s,
-            counters: t,
-        }
+        self.controller = c;
+        self
     }
 
     // The machine with other counters.

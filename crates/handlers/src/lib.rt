@@ -10,13 +10,13 @@ use counters::Counters;
 use handlers_stack::Handler;
 use pic::Controller;
 
-// The machine. Places of the stack from depth up mean nothing.
+// The machine. Places of the stack from depth up mean nothing. The controller stands last: an event of the player then costs a copy of it less.
 pub struct Machine {
-    pub controller: Controller,
     pub mask: u8,
     pub depth: u8,
     pub stack: [Handler; 15],
     pub counters: Counters,
+    pub controller: Controller,
 }
 
 // What an event hands back. A refused one answers 0 and hands back the machine as it was.
