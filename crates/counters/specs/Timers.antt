@@ -18,7 +18,8 @@ withBound t v = record { count = t .count; bound = v; control = t .control }
 abbrev pub withControl : Timer → ℕ → Timer
 withControl t v = record { count = t .count; bound = t .bound; control = v }
 
--- "Timers 0 and 1": the timer of a number, and the counters with another timer of that number.
+-- "Timers 0 and 1": the timer of a number, and the counters with another timer of that number. Any number but 0 means timer 1, so that the rules are total; CSRs and laws
+-- speak of 0 and 1 alone.
 unfoldable pub timerAt : Counters → ℕ → Timer
 timerAt c zero = c .timer0
 timerAt c (suc i) = c .timer1

@@ -7,6 +7,7 @@ use crate::Counters;
 use crate::Timer;
 
 impl Timer {
+    // Whether the timer is sound. Counter and bound are in range by their type.
     fn is_sound(self) -> bool
         ensures { λ r. ⌜ r ≡ timerSound self ⌝ }
     {
@@ -71,7 +72,7 @@ impl Counters {
         a & b
     }
 
-    // Timer i.
+    // Timer i, 0 or 1.
     pub(crate) fn timer(self, i: u8) -> Timer
         ensures { λ r. ⌜ r ≡ timerAt self i ⌝ }
     {

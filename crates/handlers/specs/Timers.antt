@@ -53,8 +53,10 @@ pub record WrittenTo (m : Machine) (r : Csr) (v : ℕ) : Type 0 where
 abbrev pub TimersWritten : Type 0
 TimersWritten = (m : Machine) → soundOf m ≡ true → (r : Csr) (v : ℕ) → isCsr r ≡ true → v < 2 ^ 32 → WrittenTo m r v
 
--- "One statement covers both timers": after a clock on a sound machine timer i is what the rule of one timer says, and bit i of the answer is 1 just when it signals.
+-- "One statement covers both timers": a sound machine accepts every clock; after it timer i is what the rule of one timer says, and bit i of the answer is 1 just when
+-- it signals.
 pub record TimerClocked (m : Machine) (i : ℕ) : Type 0 where
+  pub accepts : clockOf m .refusal ≡ 0
   pub timer : timerAt (clockOf m .machine .counters) i ≡ afterClock (timerAt (m .counters) i)
   pub bit : clockOf m .answer / 2 ^ i % 2 ≡ signalBit (timerAt (m .counters) i)
 

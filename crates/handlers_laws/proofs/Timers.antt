@@ -178,7 +178,7 @@ timers-written m e r v h b =
 
 pub timers-clocked : TimersClocked
 unfolding clockOf clockEvent
-timers-clocked m e i h = let k = clocked-each (m .counters) i h in record { timer = rw e (k .timer); bit = rw e (k .bit) }
+timers-clocked m e i h = let k = clocked-each (m .counters) i h in record { accepts = rw e; timer = rw e (k .timer); bit = rw e (k .bit) }
 
 pub clocks-alone : ClocksAlone
 clocks-alone m head value =
