@@ -1,5 +1,6 @@
 -- Document 01, "Bench points K1 to K10", the ends of the margin, the listing of "The player", a list that nests fifteen handlers, and the timers of document 02: one
--- table about the rules. Each point is a list of events played from power-on, each event with what it must answer or be refused with, and what the machine must hold after it.
+-- table about the rules. Each point is a list of events played from power-on, each event with what it must answer or be refused with, and what the machine must
+-- hold after it.
 use Prim.Native.Nat.{ℕ, zero, suc, _+_, _*_, _^_, _≤_}
 use Prim.Native.String.{String}
 use mathlib.Core.Path.{_≡_}

@@ -7,7 +7,7 @@ use lib.Dec.{leb, eqb}
 use Rattle.pic_source.specs.Tests.{allHold}
 use Rattle.pic.specs.Sound as pic
 use Rattle.pic.specs.Calls as calls
-use Rattle.counters.specs.Timers as counters
+use Rattle.counters.specs.Timers as timers
 use Rattle.handlers_stack.specs.declared.Handler.{Handler}
 use Rattle.handlers_stack.specs.Stacks.{blank, uppermostOf, handlersSound, levelOf}
 use Rattle.handlers.specs.declared.Machine.{Machine}
@@ -21,7 +21,7 @@ uppermost m = uppermostOf (m .stack) (m .depth)
 unfoldable pub powerOnOf : ℕ → Outcome
 powerOnOf n =
     record {
-      machine = record { controller = calls.powerOnOf n .controller; mask = 0; depth = 0; stack = replicate 15 blank; counters = counters.resetCounters };
+      machine = record { controller = calls.powerOnOf n .controller; mask = 0; depth = 0; stack = replicate 15 blank; counters = timers.resetCounters };
       answer = 0;
       refusal = calls.powerOnOf n .refusal;
     }
@@ -48,7 +48,7 @@ soundTests m =
     ∷ currentFits m
     ∷ maskFits m
     ∷ pic.soundOf (m .controller)
-    ∷ counters.soundOf (m .counters)
+    ∷ timers.soundOf (m .counters)
     ∷ []
 
 unfoldable pub soundOf : Machine → Bool

@@ -1,5 +1,5 @@
--- Document 01, "Handler service", and the questions 12 to 21; document 02, No. 1: what each event does and answers, once question 8 is answered yes. The rules are total: on a machine that
--- is not sound they say what the code does, and question 8 keeps that from every caller.
+-- Document 01, "Handler service", and the questions 12 to 21; document 02, No. 1: what each event does and answers, once question 8 is answered yes. The rules are
+-- total: on a machine that is not sound they say what the code does, and question 8 keeps that from every caller.
 use Prim.Native.Nat.{ℕ, _+_, _-_, _%_, _^_}
 use mathlib.Core.Bool.{Bool, cond, not, _&&_, _||_}
 use lib.ListN.{set}
