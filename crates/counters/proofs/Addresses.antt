@@ -26,7 +26,7 @@ address-csr (Mitb i) e = at-place i 1 (csrAddress (Mitb i)) (ltb-true i 2 e) (om
 address-csr (Mitctl i) e = at-place i 2 (csrAddress (Mitctl i)) (ltb-true i 2 e) (omega arith) (omega arith)
 address-csr NoCsr e = never e
 
--- One CSR of timer i: it is there, and its address is k places on from the timer's first.
+-- There is such a CSR, and its address is a.
 abbrev Stands : ℕ → Csr → Type 0
 Stands a r = (isCsr r ≡ true) × (csrAddress r ≡ a)
 

@@ -1,4 +1,4 @@
--- Document 02, No. 1: "counter, bound and control for timers 0 and 1, CSRs 0x7D2 to 0x7D7, fields as [document 004's] tables 4-1 to 4-3".
+-- Document 02, No. 1: "counter, bound and control for timers 0 and 1, CSRs 0x7D2 to 0x7D7, fields and reset values as its tables 4-1 to 4-3", which are document 004's.
 use Prim.Native.Nat.{ℕ, _+_, _-_, _*_, _/_, _%_}
 use mathlib.Core.Bool.{Bool, false, cond, _&&_}
 use lib.Dec.{leb, ltb, eqb}

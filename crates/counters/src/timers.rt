@@ -25,14 +25,12 @@ impl Timer {
     fn next_count(self) -> u32
         ensures { λ r. ⌜ r ≡ nextCount self ⌝ }
     {
-        if self.bound <= self.count {
+        let enabled = self.control % 2 == 1;
+        let at_bound = self.bound <= self.count;
+        if at_bound {
             return 0;
         }
-        if self.control % 2 == 1 {
-            self.count + 1
-        } else {
-            self.count
-        }
+        if enabled { self.count + 1 } else { self.count }
     }
 
     // The timer after a clock.

@@ -54,11 +54,12 @@ abbrev pub TimersWritten : Type 0
 TimersWritten = (m : Machine) → soundOf m ≡ true → (r : Csr) (v : ℕ) → isCsr r ≡ true → v < 2 ^ 32 → WrittenTo m r v
 
 -- "One statement covers both timers": a sound machine accepts every clock; after it timer i is what the rule of one timer says, and bit i of the answer is 1 just when
--- it signals.
+-- it signals. The answer has no other bits.
 pub record TimerClocked (m : Machine) (i : ℕ) : Type 0 where
   pub accepts : clockOf m .refusal ≡ 0
   pub timer : timerAt (clockOf m .machine .counters) i ≡ afterClock (timerAt (m .counters) i)
   pub bit : clockOf m .answer / 2 ^ i % 2 ≡ signalBit (timerAt (m .counters) i)
+  pub no-more : clockOf m .answer < 2 ^ 2
 
 abbrev pub TimersClocked : Type 0
 TimersClocked = (m : Machine) → soundOf m ≡ true → (i : ℕ) → i < 2 → TimerClocked m i

@@ -18,7 +18,7 @@ use Rattle.pic_laws.proofs.Csrs.{read-12, write-12, write-not-12}
 use Rattle.counters.specs.declared.Csr.{Csr}
 use Rattle.counters.specs.declared.Csr.the-variants.{Mitcnt, Mitb, Mitctl, NoCsr}
 use Rattle.counters.specs.Csrs.{csrAddress, isCsr, csrAt, csrValue, csrWritten}
-use Rattle.counters.proofs.Clocks.{reset-each, clocked-each}
+use Rattle.counters.proofs.Clocks.{reset-each, clocked-each, no-other-bits}
 use Rattle.counters.proofs.Addresses.{address-csr, in-the-row}
 use Rattle.counters.proofs.Writes.{written-each, written-sound}
 use Rattle.handlers.specs.declared.Machine.{Machine}
@@ -178,7 +178,7 @@ timers-written m e r v h b =
 
 pub timers-clocked : TimersClocked
 unfolding clockOf clockEvent
-timers-clocked m e i h = let k = clocked-each (m .counters) i h in record { accepts = rw e; timer = rw e (k .timer); bit = rw e (k .bit) }
+timers-clocked m e i h = let k = clocked-each (m .counters) i h in record { accepts = rw e; timer = rw e (k .timer); bit = rw e (k .bit); no-more = rw e (no-other-bits (m .counters)) }
 
 pub clocks-alone : ClocksAlone
 clocks-alone m head value =

@@ -1,4 +1,4 @@
-use borrow.Author.Tests.{le-leb, lt-leb, eq-eqb, ne-eqb}
+use borrow.Author.Tests.{leb-false}
 use Rattle.counters.specs.Timers.{nextCount}
 use borrow.Author.Needs.{needs}
 use Rattle.counters.proofs.Timer.next_count.Statement.{statement}
@@ -6,18 +6,21 @@ use Rattle.counters.proofs.Timer.next_count.Tie as tie
 
 returns : tie.Need-returns
 unfolding nextCount
-returns c = rw (le-leb _ _ (c .if1 .taken))
+returns c = rw (c .if1 .taken)
 
 add-result : tie.Need-add-result
-add-result c = search needs
+add-result c =
+    let t = c .before .before .before .before .before .args .self in
+    let l = leb-false (t .bound) (t .count) (c .before .before .if1 .left) in
+    search needs
 
 returns-2 : tie.Need-returns-2
 unfolding nextCount
-returns-2 c = rw (lt-leb _ _ (c .before .before .before .if1 .left), eq-eqb _ _ (c .before .if2 .taken))
+returns-2 c = rw (c .before .before .if1 .left, c .before .if2 .taken)
 
 returns-3 : tie.Need-returns-3
 unfolding nextCount
-returns-3 c = rw (lt-leb _ _ (c .before .before .if1 .left), ne-eqb _ _ (c .if2 .left))
+returns-3 c = rw (c .before .if1 .left, c .if2 .left)
 
 pub next-count-spec : {M : Type 1} → statement M
 next-count-spec = tie.close (tie.spec returns add-result returns-2 returns-3)
