@@ -29,6 +29,7 @@ pub const FAMILIES: &[Family] = &[
     ("nesting, wandering", nesting_wandering),
     ("chains", chains),
     ("priority order", priority_order),
+    ("mirror", mirror),
     ("thresholds", thresholds),
     ("gateways", gateways),
     ("current", current),
@@ -624,6 +625,126 @@ fn priority_order(random: &mut Random) -> Vec<u8> {
     }
     script.audit();
     finish(script)
+}
+
+/// Fields 0 to 15 in an order drawn anew.
+fn shuffled_fields(random: &mut Random) -> [u32; 16] {
+    let mut fields = std::array::from_fn(|place| place as u32);
+    for last in (1..16).rev() {
+        fields.swap(last, random.below(last as u32 + 1) as usize);
+    }
+    fields
+}
+
+/// In both orders every field in two of the four registers that hold a rank, read before and after
+/// two switches of the order. Between them these ranks decide winners, margins and openings.
+fn mirror(random: &mut Random) -> Vec<u8> {
+    let mut script = Script::new(random);
+    for source in script.focus.clone() {
+        if random.chance(1, 4) {
+            script.set_gateway(source, random.coin(), random.coin());
+        }
+    }
+    if random.coin() {
+        script.set_base();
+    }
+    script.set_mask(1);
+    let first = random.coin();
+    let orders = [first, !first].map(|reversed| (reversed, shuffled_fields(random)));
+    for place in 0..8 {
+        for (reversed, fields) in orders {
+            let source = script.a_source();
+            script.set_priord(reversed);
+            // Another field for each register.
+            let four = [0, 4, 8, 12].map(|start| fields[(start + place) % 16]);
+            script.write_fields(source, four);
+            script.read_fields(source);
+            for reversed in [!reversed, reversed] {
+                script.set_priord(reversed);
+                script.read_fields(source);
+            }
+            if random.chance(3, 4) {
+                mirrored_rank(&mut script, random, source);
+            }
+        }
+    }
+    finish(script)
+}
+
+/// The other order, or still the same.
+fn either_order(script: &mut Script, random: &mut Random) {
+    if random.coin() {
+        let switched = !script.machine.priord;
+        script.set_priord(switched);
+    }
+}
+
+/// Takes and opens, if there is a margin, and returns.
+fn take_and_open(script: &mut Script) {
+    script.take();
+    if !script.machine.handlers.is_empty() {
+        script.csr_read(MEICIDPL);
+        script.open();
+        script.csr_read(MEICURPL);
+        script.unwind();
+    }
+}
+
+/// A request of the rank that came through the mirror, against what is of that rank or beside it.
+fn mirrored_rank(script: &mut Script, random: &mut Random, source: u32) {
+    let count = script.count();
+    let rival = (source + random.below(count - 1)) % count + 1;
+    let rank = script.machine.source(source as usize).rank;
+    let beside = [rank.saturating_sub(1), rank, (rank + 1).min(15)];
+    script.set_enable(source, true);
+    script.set_active(source, true);
+    either_order(script, random);
+    match random.below(4) {
+        // Threshold and current are left as they were written.
+        0 => take_and_open(script),
+        // One of them is beside the rank, the other no higher.
+        1 => {
+            for bar in beside {
+                either_order(script, random);
+                let low = random.below(u32::from(bar) + 1) as u8;
+                let swapped = random.coin();
+                script.set_threshold(if swapped { low } else { bar });
+                script.set_current(if swapped { bar } else { low });
+                take_and_open(script);
+            }
+        }
+        // Of equals the lower number wins, whichever order each was written in.
+        2 => {
+            script.request(rival, rank);
+            for near in beside {
+                either_order(script, random);
+                script.set_rank(rival, near);
+                script.capture();
+                script.read_claim();
+            }
+            script.set_rank(rival, rank);
+            take_and_open(script);
+        }
+        // Chained, or not, by rank and threshold.
+        _ => {
+            script.set_threshold(0);
+            script.set_current(0);
+            script.take();
+            if !script.machine.handlers.is_empty() {
+                script.open();
+                script.set_mask(0);
+                script.quiet(source);
+                either_order(script, random);
+                script.request(rival, random.pick(&[rank, rank, beside[0], beside[2]]));
+                script.set_threshold(random.pick(&[0, beside[0], rank]));
+                script.chain();
+                script.read_claim();
+                script.unwind();
+            }
+        }
+    }
+    script.quiet(source);
+    script.quiet(rival);
 }
 
 /// A request at, above and below threshold and current.

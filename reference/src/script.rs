@@ -259,6 +259,24 @@ impl Script {
         self.csr_write(MEICURPL, value)
     }
 
+    /// Writes a field to each of the registers that hold a rank: meiplS of a source, meipt,
+    /// meicidpl, meicurpl.
+    pub fn write_fields(&mut self, source: u32, fields: [u32; 4]) {
+        let [own, threshold, claimed, current] = fields.map(|field| self.litter(field, 4));
+        self.store(4 * source, own);
+        self.csr_write(MEIPT, threshold);
+        self.csr_write(MEICIDPL, claimed);
+        self.csr_write(MEICURPL, current);
+    }
+
+    /// Reads the registers that hold a rank, meiplS of one source.
+    pub fn read_fields(&mut self, source: u32) {
+        self.load(4 * source);
+        for address in [MEIPT, MEICIDPL, MEICURPL] {
+            self.csr_read(address);
+        }
+    }
+
     pub fn set_base(&mut self) {
         let value = match self.random.below(4) {
             0 => 0,

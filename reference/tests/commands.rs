@@ -4,6 +4,7 @@ use reference::compare::{compare, Comparison, Difference, Verdict};
 use reference::compare_text::compare_text;
 use reference::generate::FAMILIES;
 use reference::program::Program;
+use reference::text::to_record;
 use reference::texts;
 use std::fs;
 use std::io::Write;
@@ -216,12 +217,12 @@ fn its_own_converter_is_alike() {
 #[test]
 fn another_record_or_message_is_a_difference() {
     let folder = folder("converter");
+    let record = to_record(&texts::make(1, 0).bytes).unwrap();
+    let zero = record.iter().position(|&byte| byte == 0).unwrap();
+    let at_zero = format!("standard output, byte {zero} from 0\n  reference 0x00 (");
     for (filter, start) in [
         // Another record, no message.
-        (
-            "tr '\\000' '\\001'",
-            "standard output, byte 1 from 0\n  reference 0x00 (",
-        ),
+        ("tr '\\000' '\\001'", at_zero.as_str()),
         // The record and a message.
         (
             "cat; echo more >&2",

@@ -4,6 +4,7 @@ use mathlib.Core.List.{[], _++_}
 use Rattle.event.specs.Event.{shapeOf}
 use Rattle.event.specs.Listing.{listingSources, listingHeads, listingValues}
 use Rattle.pic_source.specs.Ranks.{mirror}
+use Rattle.pic_source.specs.ClosedForm.{closedForm}
 use Rattle.pic_source.specs.Sources.{isPending}
 use Rattle.pic.specs.Sources.{winnerTo, isEligible, entryOf, betterOf, higherOf, differenceOf}
 use Rattle.pic.specs.Sound.{sourceSound}
@@ -34,7 +35,7 @@ use Rattle.bench_points.specs.Points.{Points, Plays, Holds, after, listi
 
 -- To unfold this is to unfold every rule.
 rules : Unit {0}
-unfolding printOf eventLines ascii digitsTo readVerdict walkFrom wordsOf bytesOfWords endOf eachOf stepOf soundStepOf eventOf sampleEvent loadEvent storeEvent csrReadEvent controllerWrite csrWriteEvent takeEvent openEvent chainEvent returnEvent setMaskEvent clockEvent clockOf marginAnswer soundOf handlersSound handlerSound belowOf levelOf powerOnOf shapeOf calls.powerOnOf calls.sourceCount calls.currentRank calls.setCurrent calls.meihapOf calls.captureOf calls.lookOf registers.sampleOf registers.loadOf registers.storeOf csrs.csrReadOf csrs.csrWriteOf sound.soundOf sound.sourcesSound sourceSound isPending isEligible entryOf betterOf winnerTo higherOf differenceOf joinOf wordTo placesTo sourceRegister pageRegister offsetRefusal readOf writtenOf csrAt csrValue csrWritten mirror timers.timerAt timers.withTimer timers.resetCounters timers.timerSound timers.soundOf timers.nextCount timers.clockOf counters.csrOf counters.csrAt counters.csrValue counters.csrWritten
+unfolding printOf eventLines ascii digitsTo readVerdict walkFrom wordsOf bytesOfWords endOf eachOf stepOf soundStepOf eventOf sampleEvent loadEvent storeEvent csrReadEvent controllerWrite csrWriteEvent takeEvent openEvent chainEvent returnEvent setMaskEvent clockEvent clockOf marginAnswer soundOf handlersSound handlerSound belowOf levelOf powerOnOf shapeOf calls.powerOnOf calls.sourceCount calls.currentRank calls.setCurrent calls.meihapOf calls.captureOf calls.lookOf registers.sampleOf registers.loadOf registers.storeOf csrs.csrReadOf csrs.csrWriteOf sound.soundOf sound.sourcesSound sourceSound isPending isEligible entryOf betterOf winnerTo higherOf differenceOf joinOf wordTo placesTo sourceRegister pageRegister offsetRefusal readOf writtenOf csrAt csrValue csrWritten mirror closedForm timers.timerAt timers.withTimer timers.resetCounters timers.timerSound timers.soundOf timers.nextCount timers.clockOf counters.csrOf counters.csrAt counters.csrValue counters.csrWritten
 rules = tt
 
 -- The whole print and the long list apart from the table, since what one declaration may compute is limited.
@@ -115,4 +116,10 @@ points =
       timers-nested = (refl, refl);
       timers-nested-up = refl;
       timers-nested-down = refl;
+      mirror-0 = refl;
+      mirror-1 = refl;
+      mirror-past = refl;
+      mirror-ranks = refl;
+      mirror-meipl = (refl, refl);
+      mirror-csrs = (refl, refl);
     }

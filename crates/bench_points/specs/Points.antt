@@ -1,6 +1,6 @@
--- Document 01, "Bench points K1 to K10", the ends of the margin, the listing of "The player", a list that nests fifteen handlers, and the timers of document 02: one
--- table about the rules. Each point is a list of events played from power-on, each event with what it must answer or be refused with, and what the machine must
--- hold after it.
+-- Document 01, "Bench points K1 to K10", the ends of the margin, the listing of "The player", a list that nests fifteen handlers, and the timers and the mirror
+-- of document 02: one table about the rules. Each point is a list of events played from power-on, each event with what it must answer or be refused with, and what
+-- the machine must hold after it.
 use Prim.Native.Nat.{ℕ, zero, suc, _+_, _*_, _^_, _≤_}
 use Prim.Native.String.{String}
 use mathlib.Core.Path.{_≡_}
@@ -12,6 +12,7 @@ use Rattle.event.specs.Event.{kindOf, addressOf}
 use Rattle.event.specs.Listing.{listingSources, listingHeads, listingValues}
 use Rattle.pic_source.specs.declared.Rank.{Rank}
 use Rattle.pic_source.specs.Ranks.{rank}
+use Rattle.pic_source.specs.ClosedForm.{closedForm}
 use Rattle.pic.specs.Sources.{rankAt, eligibleAt, winnerOf}
 use Rattle.pic.specs.Calls.{sourceCount, currentRank}
 use Rattle.counters.specs.Timers.{withControl, withTimer, resetTimer}
@@ -107,6 +108,9 @@ meipt = 0xBC9
 
 abbrev pub meicpct : ℕ
 meicpct = 0xBCA
+
+abbrev pub meicidpl : ℕ
+meicidpl = 0xBCB
 
 abbrev pub meicurpl : ℕ
 meicurpl = 0xBCC
@@ -322,6 +326,28 @@ nested-down = clock ∷ mask 0 ∷ clock ∷ return answers 1 ∷ clock answers 
 abbrev pub controlled : ℕ → Machine
 controlled v = withCounters (start 4) (withTimer (start 4 .counters) 1 (withControl resetTimer v))
 
+-- The closed form of the mirror at the fields 0 to n − 1.
+abbrev pub closedColumn : ℕ → ℕ → List ℤ
+closedColumn priord zero = []
+closedColumn priord (suc n) = closedColumn priord n ++ (closedForm (pos priord) (pos n) ∷ [])
+
+-- With priord 1, the rank of source 2 after each of these fields is stored alone.
+abbrev pub rankColumn : ℕ → List Rank
+rankColumn zero = []
+rankColumn (suc n) = rankColumn n ++ (rankAt (after 4 (store mpiccfg 1 ∷ store (meipl 2) n ∷ []) .controller) 2 ∷ [])
+
+-- Each of these fields, the last first, is stored to meipl2 and read back.
+abbrev pub stored : ℕ → List Row
+stored zero = []
+stored (suc n) = store (meipl 2) n ∷ load (meipl 2) answers n ∷ stored n
+
+-- This field is written to the three CSRs of ranks; they read this field.
+abbrev pub csrs-written : ℕ → List Row
+csrs-written f = csrWrite meipt f ∷ csrWrite meicidpl f ∷ csrWrite meicurpl f ∷ []
+
+abbrev pub csrs-read : ℕ → List Row
+csrs-read f = csrRead meipt answers f ∷ csrRead meicidpl answers f ∷ csrRead meicurpl answers f ∷ []
+
 -- The table.
 pub record Points : Type 0 where
   -- K1 rank 5, priord set to 1: meipl reads 10.
@@ -440,3 +466,18 @@ pub record Points : Type 0 where
   pub timers-nested : Plays 4 (nested-up ++ nested-down ++ counts 1 9)
   pub timers-nested-up : Holds (after 4 nested-up) 2 (handler 1 1 0 1 ∷ handler 2 2 1 1 ∷ []) 2
   pub timers-nested-down : Holds (after 4 (nested-up ++ nested-down)) 0 [] 0
+  -- Document 02, No. 2. The closed form is the field with priord 0, for the fields 0 to 15, and 15 less it with priord 1; past 15 it is below 0.
+  pub mirror-0 : closedColumn 0 16 ≡ pos 0 ∷ pos 1 ∷ pos 2 ∷ pos 3 ∷ pos 4 ∷ pos 5 ∷ pos 6 ∷ pos 7 ∷ pos 8 ∷ pos 9 ∷ pos 10 ∷ pos 11 ∷ pos 12 ∷ pos 13 ∷ pos 14 ∷ pos 15 ∷ []
+  pub mirror-1 : closedColumn 1 16 ≡ pos 15 ∷ pos 14 ∷ pos 13 ∷ pos 12 ∷ pos 11 ∷ pos 10 ∷ pos 9 ∷ pos 8 ∷ pos 7 ∷ pos 6 ∷ pos 5 ∷ pos 4 ∷ pos 3 ∷ pos 2 ∷ pos 1 ∷ pos 0 ∷ []
+  pub mirror-past : closedForm (pos 1) (pos 16) ≡ negsuc 0
+  -- "Callers see the same numbers": the rank of every field, and every field read back; so of the CSRs, and once more in the other order.
+  pub mirror-ranks : rankColumn 16 ≡ rank 15 ∷ rank 14 ∷ rank 13 ∷ rank 12 ∷ rank 11 ∷ rank 10 ∷ rank 9 ∷ rank 8 ∷ rank 7 ∷ rank 6 ∷ rank 5 ∷ rank 4 ∷ rank 3 ∷ rank 2 ∷ rank 1 ∷ rank 0 ∷ []
+  pub mirror-meipl : Plays 4 (store mpiccfg 1 ∷ stored 16)
+  pub mirror-csrs :
+      Plays 4
+      ((store mpiccfg 1 ∷ csrs-written 3)
+      ++ csrs-read 3
+      ++ (store mpiccfg 0 ∷ csrs-read 12)
+      ++ csrs-written 15
+      ++ csrs-read 15
+      ++ (store mpiccfg 1 ∷ csrs-read 0))

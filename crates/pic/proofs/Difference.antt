@@ -1,32 +1,15 @@
--- The difference of two ranks as an i32: exact, from −15 to 15 for ranks, and above 0 just where the first is the larger.
-use Prim.Native.Nat.{ℕ, zero, suc, _-_, _≤_, _<_}
-use mathlib.Core.Path.{_≡_, refl, ap}
+-- The difference of two ranks: from −15 to 15, and above 0 just where the first is the larger.
+use Prim.Native.Nat.{ℕ, suc, _-_, _≤_, _<_}
+use mathlib.Core.Path.{_≡_, refl}
 use mathlib.Core.Bool.{Bool, true, false}
 use native.Mathlib.Omega.{arith}
 use borrow.Author.Tests.{lt-ltb, le-ltb, le-leb, ltb-true, ltb-false}
 use lib.Dec.{ltb}
 use lib.IntN.{ℤ, pos, negsuc, _-ℤ_}
 use lib.Signed.{ltZ, leZ}
-use mir.Val.{SFits, toZ, ofZ}
-use mir.Syntax.{w32}
-use mir.Facts.{toZ-pos, toZ-ofZ}
 use Rattle.pic_source.specs.declared.Rank.{Rank}
+use Rattle.pic_source.proofs.Signed.{not-less, less}
 use Rattle.pic.specs.Sources.{differenceOf}
-
-pub not-less : (a b : ℕ) → b ≤ a → pos a -ℤ pos b ≡ pos (a - b)
-not-less a zero h = ap pos (omega arith)
-not-less a (suc n) h = rw (le-ltb a (suc n) h)
-
-pub less : (a b : ℕ) → a < b → pos a -ℤ pos b ≡ negsuc (b - suc a)
-less a zero h = absurd (omega arith)
-less a (suc n) h = rw (lt-ltb a (suc n) h)
-
-fits : (a b : ℕ) → a < 256 → b < 256 → SFits w32 (pos a -ℤ pos b)
-fits a b ha hb = go (ltb a b) refl
-  where
-    go : (t : Bool) → ltb a b ≡ t → SFits w32 (pos a -ℤ pos b)
-    go true e = rw (less a b (ltb-true a b e)) (record { sfits = omega arith })
-    go false e = rw (not-less a b (ltb-false a b e)) (record { sfits = omega arith })
 
 -- The difference is above 0 just where the first number is above the second.
 pub above : (a b : ℕ) → ltZ (pos 0) (pos a -ℤ pos b) ≡ ltb b a
@@ -39,14 +22,6 @@ above a b = go (ltb a b) refl
     go : (t : Bool) → ltb a b ≡ t → ltZ (pos 0) (pos a -ℤ pos b) ≡ ltb b a
     go true e = let h : a < b = ltb-true a b e in rw (less a b h, le-ltb b a (omega arith))
     go false e = let h : b ≤ a = ltb-false a b e in rw (not-less a b h) (same (ltb b a) refl h)
-
--- What the code computes, and that it fits.
-pub computed : (a b : ℕ) → a < 256 → b < 256 → toZ w32 (ofZ w32 (toZ w32 a -ℤ toZ w32 b)) ≡ pos a -ℤ pos b
-computed a b ha hb =
-    rw (toZ-pos w32 {n = a} (omega arith), toZ-pos w32 {n = b} (omega arith)) (toZ-ofZ (fits a b ha hb))
-
-pub computed-fits : (a b : ℕ) → a < 256 → b < 256 → SFits w32 (toZ w32 a -ℤ toZ w32 b)
-computed-fits a b ha hb = rw (toZ-pos w32 {n = a} (omega arith), toZ-pos w32 {n = b} (omega arith)) (fits a b ha hb)
 
 -- −15 and 15.
 abbrev pub Small : ℤ → Type 0

@@ -1,18 +1,27 @@
 // Ranks and fields, turned into one another by the priord mirror alone.
 
 ghost use mathlib.Core.Path.{_≡_};
+ghost use lib.IntN.{pos};
 ghost use Rattle.pic_source.specs.Ranks.{mirror, fieldOf, rankOf};
+ghost use Rattle.pic_source.specs.ClosedForm.{closedForm};
 use crate::Field;
 use crate::Rank;
 
-// n, or 15 less n where priord is not 0.
+// field + priord × (15 − 2 × field) over signed numbers, of a field or a rank n: n or 15 − n, with no branch.
+fn closed_form(priord: u8, n: u8) -> i32
+    ensures { λ r. ⌜ r ≡ closedForm (pos priord) (pos n) ⌝ }
+{
+    let p = priord as i32;
+    let f = n as i32;
+    f + p * (15 - 2 * f)
+}
+
+// n, or 15 less n where priord is not 0. What would be below 0 is 0; a sound controller has no such number.
 fn mirrored(priord: u8, n: u8) -> u8
     ensures { λ r. ⌜ r ≡ mirror priord n ⌝ }
 {
-    if priord == 0 {
-        return n;
-    }
-    if n <= 15 { 15 - n } else { 0 }
+    let z = closed_form((priord != 0) as u8, n);
+    (z * ((z >= 0) as i32)) as u8
 }
 
 // The field of a rank.

@@ -1,20 +1,40 @@
-use borrow.Author.Tests.{eq-eqb, ne-eqb}
 use native.Mathlib.Omega.{arith}
+use borrow.Author.Needs.{needs}
 use Rattle.pic_source.specs.Ranks.{mirror}
+use Rattle.pic_source.proofs.Signed.{keeping}
+use Rattle.pic_source.proofs.ClosedForm.{Total, total}
 use Rattle.pic_source.proofs.ranks.mirrored.Statement.{statement}
 use Rattle.pic_source.proofs.ranks.mirrored.Tie as tie
+use Rattle.pic_source.proofs.ranks.mirrored.Reads as reads
+use Rattle.pic_source.proofs.ranks.mirrored.Lts as lts
+use Rattle.pic_source.proofs.ranks.closed_form.Reads as closed-form-reads
+
+abbrev Place : Type 0
+Place = lts.After-closed-form (closed-form-reads.Asked, closed-form-reads.Learnt) reads.Pre reads.Post
+
+worked : (c : Place) → Total (mirror (c .before .args .priord) (c .before .args .n)) (c .closed-form .result)
+worked c = rw (c .closed-form .ensures) (total (c .before .args .priord) (c .before .args .n) (search needs))
+
+cast-closed-form : tie.Need-cast-closed-form
+cast-closed-form c = search needs
+
+closed-form-requires : tie.Need-closed-form-requires
+closed-form-requires c κs = search needs
+
+cast-result : tie.Need-cast-result
+cast-result c = search needs
+
+mul-result : tie.Need-mul-result
+mul-result c = keeping (c .closed-form .result) (worked c .near) .fits
+
+cast-result-2 : tie.Need-cast-result-2
+cast-result-2 c =
+    let k = keeping (c .closed-form .result) (worked c .near) .exact in rw (k .is) (tt, record { fits = omega arith })
 
 returns : tie.Need-returns
-unfolding mirror
-returns c = rw (eq-eqb _ _ (c .if1 .taken))
-
-returns-2 : tie.Need-returns-2
-unfolding mirror
-returns-2 c = rw (ne-eqb _ _ (c .before .if1 .left))
-
-returns-3 : tie.Need-returns-3
-unfolding mirror
-returns-3 c = rw (ne-eqb _ _ (c .before .if1 .left)) (omega arith)
+returns c = rw (keeping (c .closed-form .result) (worked c .near) .exact .is) (worked c .is)
 
 pub mirrored-spec : {M : Type 1} → statement M
-mirrored-spec = tie.close (tie.spec returns returns-2 returns-3)
+mirrored-spec =
+    tie.close
+    (tie.spec cast-closed-form closed-form-requires cast-result mul-result cast-result-2 returns)
