@@ -470,7 +470,7 @@ pub record Points : Type 0 where
   pub mirror-0 : closedColumn 0 16 ≡ pos 0 ∷ pos 1 ∷ pos 2 ∷ pos 3 ∷ pos 4 ∷ pos 5 ∷ pos 6 ∷ pos 7 ∷ pos 8 ∷ pos 9 ∷ pos 10 ∷ pos 11 ∷ pos 12 ∷ pos 13 ∷ pos 14 ∷ pos 15 ∷ []
   pub mirror-1 : closedColumn 1 16 ≡ pos 15 ∷ pos 14 ∷ pos 13 ∷ pos 12 ∷ pos 11 ∷ pos 10 ∷ pos 9 ∷ pos 8 ∷ pos 7 ∷ pos 6 ∷ pos 5 ∷ pos 4 ∷ pos 3 ∷ pos 2 ∷ pos 1 ∷ pos 0 ∷ []
   pub mirror-past : closedForm (pos 1) (pos 16) ≡ negsuc 0
-  -- "Callers see the same numbers": the rank of every field, and every field read back; so of the CSRs, and once more in the other order.
+  -- "Callers see the same numbers": the rank of every field, and every field read back from meipl2; of the CSRs one field in each order, read in both.
   pub mirror-ranks : rankColumn 16 ≡ rank 15 ∷ rank 14 ∷ rank 13 ∷ rank 12 ∷ rank 11 ∷ rank 10 ∷ rank 9 ∷ rank 8 ∷ rank 7 ∷ rank 6 ∷ rank 5 ∷ rank 4 ∷ rank 3 ∷ rank 2 ∷ rank 1 ∷ rank 0 ∷ []
   pub mirror-meipl : Plays 4 (store mpiccfg 1 ∷ stored 16)
   pub mirror-csrs :
