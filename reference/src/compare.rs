@@ -4,7 +4,7 @@ use crate::event::KINDS;
 use crate::generate::{generate, FAMILIES};
 use crate::player::{self, Tally};
 use crate::program::{shown, ways, Program};
-use crate::record::{self, MOST_EVENTS};
+use crate::record::{self, Limits};
 
 const NAMES: [&str; KINDS as usize] = [
     "sample",
@@ -61,8 +61,8 @@ pub enum Verdict<S> {
     Different(Difference),
 }
 
-/// Compares record after record, up to the first difference.
-pub fn compare(comparison: &Comparison) -> Result<Verdict<Summary>, String> {
+/// Compares record after record with this player of the same limits, up to the first difference.
+pub fn compare(comparison: &Comparison, limits: Limits) -> Result<Verdict<Summary>, String> {
     comparison.check()?;
     let none = |&(name, _): &(&'static str, _)| (name, 0, Tally::default());
     let mut summary = Summary {
@@ -71,12 +71,12 @@ pub fn compare(comparison: &Comparison) -> Result<Verdict<Summary>, String> {
         families: FAMILIES.iter().map(none).collect(),
     };
     for index in 0..comparison.count {
-        let generated = generate(comparison.seed, index);
-        let (expected, tally) = player::play(&generated.bytes);
+        let generated = generate(comparison.seed, index, limits);
+        let record = &generated.bytes;
+        let (expected, tally) = player::play(record, limits);
         for &in_pieces in ways(index) {
-            let written = comparison.program.run(&generated.bytes, in_pieces, false)?;
-            let reason = match written {
-                Ok(written) => difference(&generated.bytes, expected.as_bytes(), &written.output),
+            let reason = match comparison.program.run(record, in_pieces, false)? {
+                Ok(written) => difference(record, limits, expected.as_bytes(), &written.output),
                 Err(ending) => Some(format!("the player: {ending}")),
             };
             if let Some(reason) = reason {
@@ -102,7 +102,7 @@ pub fn compare(comparison: &Comparison) -> Result<Verdict<Summary>, String> {
     Ok(Verdict::Alike(Box::new(summary)))
 }
 
-fn difference(record: &[u8], expected: &[u8], printed: &[u8]) -> Option<String> {
+fn difference(record: &[u8], limits: Limits, expected: &[u8], printed: &[u8]) -> Option<String> {
     if printed == expected {
         return None;
     }
@@ -116,15 +116,15 @@ fn difference(record: &[u8], expected: &[u8], printed: &[u8]) -> Option<String> 
     Some(format!(
         "line {}, {}\n  reference {}\n  player    {}",
         place + 1,
-        what_line(record, place),
+        what_line(record, limits, place),
         line(&mine),
         line(&theirs)
     ))
 }
 
 /// What a line of a record's print is about; lines count from 0 here.
-fn what_line(record: &[u8], line: usize) -> String {
-    let events = match record::read(record, MOST_EVENTS) {
+fn what_line(record: &[u8], limits: Limits, line: usize) -> String {
+    let events = match record::read(record, limits, limits.events) {
         Ok(record) => record.events,
         Err(_) if line == 0 => return "the line of the refusal".to_string(),
         Err(_) => return "after the line of the refusal".to_string(),

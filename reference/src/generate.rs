@@ -3,16 +3,20 @@
 use crate::event::*;
 use crate::machine::*;
 use crate::random::Random;
-use crate::record::{lay_out, Record, MOST_EVENTS};
+use crate::record::{lay_out, Limits, Record, BOARD, COMPACT};
 use crate::script::{choose_count, Script, Weights, EVEN};
 use crate::timer::*;
+use std::ops::RangeInclusive;
 
 pub struct Generated {
     pub family: &'static str,
     pub bytes: Vec<u8>,
 }
 
-type Family = (&'static str, fn(&mut Random) -> Vec<u8>);
+/// A name and what makes a record for a reader of given limits.
+type Family = (&'static str, fn(&mut Random, Limits) -> Vec<u8>);
+
+const LIMITS: Family = ("limits", at_limits);
 
 pub const FAMILIES: &[Family] = &[
     ("no events", no_events),
@@ -53,6 +57,7 @@ pub const FAMILIES: &[Family] = &[
     ("kind and unused parts", kind_and_unused),
     ("several faults", several_faults),
     ("noise", noise),
+    LIMITS,
 ];
 
 /// Which of `size` families is next. Every round goes through all, each round from another start.
@@ -61,13 +66,24 @@ pub fn turn(index: u64, size: usize) -> usize {
     ((index % size + index / size) % size) as usize
 }
 
-/// Record `index` of `seed`.
-pub fn generate(seed: u64, index: u64) -> Generated {
-    let (family, build) = FAMILIES[turn(index, FAMILIES.len())];
+/// The family of record `index`. For a reader with limits of its own every third is about limits.
+fn family(index: u64, limits: Limits) -> Family {
+    if limits == BOARD {
+        FAMILIES[turn(index, FAMILIES.len())]
+    } else if index % 3 == 2 {
+        LIMITS
+    } else {
+        FAMILIES[turn(index - index / 3, FAMILIES.len())]
+    }
+}
+
+/// Record `index` of `seed`, for a reader of these limits.
+pub fn generate(seed: u64, index: u64, limits: Limits) -> Generated {
+    let (family, build) = family(index, limits);
     let mut random = Random::for_index(seed, index);
     Generated {
         family,
-        bytes: build(&mut random),
+        bytes: build(&mut random, limits),
     }
 }
 
@@ -83,12 +99,12 @@ fn finish(script: Script) -> Vec<u8> {
 
 // Valid records.
 
-fn no_events(random: &mut Random) -> Vec<u8> {
-    lay_out(0, choose_count(random), &[], &[])
+fn no_events(random: &mut Random, limits: Limits) -> Vec<u8> {
+    lay_out(0, choose_count(random, limits), &[], &[])
 }
 
-fn one_event(random: &mut Random) -> Vec<u8> {
-    let mut script = Script::new(random);
+fn one_event(random: &mut Random, limits: Limits) -> Vec<u8> {
+    let mut script = Script::new(random, limits);
     script.room = 1;
     let even = Weights {
         boundary: 30,
@@ -100,8 +116,8 @@ fn one_event(random: &mut Random) -> Vec<u8> {
     finish(script)
 }
 
-fn short(random: &mut Random) -> Vec<u8> {
-    let mut script = Script::new(random);
+fn short(random: &mut Random, limits: Limits) -> Vec<u8> {
+    let mut script = Script::new(random, limits);
     script.room = random.between(2, 24) as usize;
     let room = script.room;
     script.wander(&EVEN, room);
@@ -124,31 +140,37 @@ fn some_weights(random: &mut Random) -> Weights {
     }
 }
 
-fn mixed(random: &mut Random) -> Vec<u8> {
-    let mut script = Script::new(random);
+fn mixed(random: &mut Random, limits: Limits) -> Vec<u8> {
+    let mut script = Script::new(random, limits);
     let weights = some_weights(random);
     script.wander(&weights, random.between(30, 400) as usize);
     script.audit();
     finish(script)
 }
 
-fn long(random: &mut Random) -> Vec<u8> {
-    let mut script = Script::new(random);
+fn long(random: &mut Random, limits: Limits) -> Vec<u8> {
+    let mut script = Script::new(random, limits);
     if random.coin() {
-        script.room = random.between(1000, 3999) as usize;
+        let most = limits.events as u32;
+        script.room = random.between(most / 4, most - 1) as usize;
     }
+    fill(&mut script, random);
+    finish(script)
+}
+
+/// Wanders as long as there is room, every stretch in another way.
+fn fill(script: &mut Script, random: &mut Random) {
     while !script.full() {
         let weights = some_weights(random);
         script.refocus();
         script.wander(&weights, random.between(100, 600) as usize);
         script.audit();
     }
-    finish(script)
 }
 
 /// Known kinds with no look at the state; the unused parts are 0.
-fn plain_random(random: &mut Random) -> Vec<u8> {
-    let mut script = Script::new(random);
+fn plain_random(random: &mut Random, limits: Limits) -> Vec<u8> {
+    let mut script = Script::new(random, limits);
     for _ in 0..random.between(1, 300) {
         let kind = random.below(KINDS);
         let word = random.word();
@@ -173,8 +195,8 @@ fn plain_random(random: &mut Random) -> Vec<u8> {
     finish(script)
 }
 
-fn offsets(random: &mut Random) -> Vec<u8> {
-    let mut script = Script::new(random);
+fn offsets(random: &mut Random, limits: Limits) -> Vec<u8> {
+    let mut script = Script::new(random, limits);
     if random.coin() {
         script.set_priord(true);
     }
@@ -199,8 +221,8 @@ fn offsets(random: &mut Random) -> Vec<u8> {
     finish(script)
 }
 
-fn csr_addresses(random: &mut Random) -> Vec<u8> {
-    let mut script = Script::new(random);
+fn csr_addresses(random: &mut Random, limits: Limits) -> Vec<u8> {
+    let mut script = Script::new(random, limits);
     if random.coin() {
         script.set_priord(true);
     }
@@ -228,8 +250,8 @@ fn csr_addresses(random: &mut Random) -> Vec<u8> {
 }
 
 /// Events to which more than one question answers no, in every state of the handlers.
-fn question_order(random: &mut Random) -> Vec<u8> {
-    let mut script = Script::new(random);
+fn question_order(random: &mut Random, limits: Limits) -> Vec<u8> {
+    let mut script = Script::new(random, limits);
     for _ in 0..random.between(5, 40) {
         let value = random.word();
         match random.below(10) {
@@ -415,8 +437,8 @@ fn start_nesting(script: &mut Script, random: &mut Random) {
 }
 
 /// Takes and opens handlers of rising ranks, then returns from all of them.
-fn nesting(random: &mut Random) -> Vec<u8> {
-    let mut script = Script::new(random);
+fn nesting(random: &mut Random, limits: Limits) -> Vec<u8> {
+    let mut script = Script::new(random, limits);
     start_nesting(&mut script, random);
     let ranks = rising_ranks(random);
     let disturbed = random.chance(2, 3);
@@ -479,8 +501,8 @@ fn nesting(random: &mut Random) -> Vec<u8> {
 }
 
 /// One line stays active while its rank climbs: fifteen handlers of a single source.
-fn nesting_one_source(random: &mut Random) -> Vec<u8> {
-    let mut script = Script::new(random);
+fn nesting_one_source(random: &mut Random, limits: Limits) -> Vec<u8> {
+    let mut script = Script::new(random, limits);
     start_nesting(&mut script, random);
     let source = random.between(1, script.count());
     let other = random.between(1, script.count());
@@ -521,8 +543,8 @@ fn nesting_one_source(random: &mut Random) -> Vec<u8> {
 }
 
 /// Service events above all, up and down.
-fn nesting_wandering(random: &mut Random) -> Vec<u8> {
-    let mut script = Script::new(random);
+fn nesting_wandering(random: &mut Random, limits: Limits) -> Vec<u8> {
+    let mut script = Script::new(random, limits);
     start_nesting(&mut script, random);
     let weights = Weights {
         sample: 0,
@@ -543,8 +565,8 @@ fn nesting_wandering(random: &mut Random) -> Vec<u8> {
 }
 
 /// Several sources of one rank, served in a chain.
-fn chains(random: &mut Random) -> Vec<u8> {
-    let mut script = Script::new(random);
+fn chains(random: &mut Random, limits: Limits) -> Vec<u8> {
+    let mut script = Script::new(random, limits);
     start_nesting(&mut script, random);
     let rank = random.between(4, 15) as u8;
     let focus = script.focus.clone();
@@ -587,8 +609,8 @@ fn chains(random: &mut Random) -> Vec<u8> {
     finish(script)
 }
 
-fn priority_order(random: &mut Random) -> Vec<u8> {
-    let mut script = Script::new(random);
+fn priority_order(random: &mut Random, limits: Limits) -> Vec<u8> {
+    let mut script = Script::new(random, limits);
     for _ in 0..random.between(10, 60) {
         let source = script.a_source();
         let value = random.word();
@@ -638,8 +660,8 @@ fn shuffled_fields(random: &mut Random) -> [u32; 16] {
 
 /// In both orders every field in two of the four registers that hold a rank, read before and after
 /// two switches of the order. Between them these ranks decide winners, margins and openings.
-fn mirror(random: &mut Random) -> Vec<u8> {
-    let mut script = Script::new(random);
+fn mirror(random: &mut Random, limits: Limits) -> Vec<u8> {
+    let mut script = Script::new(random, limits);
     for source in script.focus.clone() {
         if random.chance(1, 4) {
             script.set_gateway(source, random.coin(), random.coin());
@@ -748,8 +770,8 @@ fn mirrored_rank(script: &mut Script, random: &mut Random, source: u32) {
 }
 
 /// A request at, above and below threshold and current.
-fn thresholds(random: &mut Random) -> Vec<u8> {
-    let mut script = Script::new(random);
+fn thresholds(random: &mut Random, limits: Limits) -> Vec<u8> {
+    let mut script = Script::new(random, limits);
     script.set_mask(1);
     if random.chance(1, 3) {
         script.set_priord(true);
@@ -793,8 +815,8 @@ fn thresholds(random: &mut Random) -> Vec<u8> {
     finish(script)
 }
 
-fn gateways(random: &mut Random) -> Vec<u8> {
-    let mut script = Script::new(random);
+fn gateways(random: &mut Random, limits: Limits) -> Vec<u8> {
+    let mut script = Script::new(random, limits);
     for _ in 0..random.between(10, 80) {
         let source = script.a_source();
         match random.below(8) {
@@ -844,8 +866,8 @@ fn gateways(random: &mut Random) -> Vec<u8> {
 }
 
 /// Writes of meicurpl with and without handlers.
-fn current(random: &mut Random) -> Vec<u8> {
-    let mut script = Script::new(random);
+fn current(random: &mut Random, limits: Limits) -> Vec<u8> {
+    let mut script = Script::new(random, limits);
     script.set_mask(1);
     for _ in 0..random.between(5, 60) {
         match random.below(6) {
@@ -872,8 +894,8 @@ fn current(random: &mut Random) -> Vec<u8> {
     finish(script)
 }
 
-fn mask(random: &mut Random) -> Vec<u8> {
-    let mut script = Script::new(random);
+fn mask(random: &mut Random, limits: Limits) -> Vec<u8> {
+    let mut script = Script::new(random, limits);
     for _ in 0..random.between(5, 60) {
         match random.below(6) {
             0 => {
@@ -911,8 +933,8 @@ fn mask(random: &mut Random) -> Vec<u8> {
 }
 
 /// Many pending sources of few ranks: the winner by rank, then by number.
-fn ties(random: &mut Random) -> Vec<u8> {
-    let mut script = Script::new(random);
+fn ties(random: &mut Random, limits: Limits) -> Vec<u8> {
+    let mut script = Script::new(random, limits);
     let high = random.between(1, 15);
     let low = random.between(0, high);
     let count = script.count();
@@ -955,8 +977,8 @@ fn ties(random: &mut Random) -> Vec<u8> {
 }
 
 /// Claims, with the base changed before and after.
-fn claims(random: &mut Random) -> Vec<u8> {
-    let mut script = Script::new(random);
+fn claims(random: &mut Random, limits: Limits) -> Vec<u8> {
+    let mut script = Script::new(random, limits);
     for _ in 0..random.between(5, 60) {
         match random.below(7) {
             0 => {
@@ -996,8 +1018,8 @@ fn claims(random: &mut Random) -> Vec<u8> {
 }
 
 /// A capture after every change of any source.
-fn winners(random: &mut Random) -> Vec<u8> {
-    let mut script = Script::new(random);
+fn winners(random: &mut Random, limits: Limits) -> Vec<u8> {
+    let mut script = Script::new(random, limits);
     let count = script.count();
     for _ in 0..random.between(20, 150) {
         let leader = script.machine.winner().0 as u32;
@@ -1028,8 +1050,8 @@ fn winners(random: &mut Random) -> Vec<u8> {
 }
 
 /// Registers and lines of the sources just above N.
-fn beyond(random: &mut Random) -> Vec<u8> {
-    let mut script = Script::new(random);
+fn beyond(random: &mut Random, limits: Limits) -> Vec<u8> {
+    let mut script = Script::new(random, limits);
     if random.coin() {
         script.set_priord(true);
     }
@@ -1055,8 +1077,8 @@ fn beyond(random: &mut Random) -> Vec<u8> {
     finish(script)
 }
 
-fn samples(random: &mut Random) -> Vec<u8> {
-    let mut script = Script::new(random);
+fn samples(random: &mut Random, limits: Limits) -> Vec<u8> {
+    let mut script = Script::new(random, limits);
     let count = script.count();
     for source in 1..=count {
         if random.coin() {
@@ -1081,8 +1103,8 @@ fn samples(random: &mut Random) -> Vec<u8> {
 }
 
 /// Bounds, counters and controls at their edges, and clocks, alone and within handlers.
-fn timers(random: &mut Random) -> Vec<u8> {
-    let mut script = Script::new(random);
+fn timers(random: &mut Random, limits: Limits) -> Vec<u8> {
+    let mut script = Script::new(random, limits);
     if random.coin() {
         script.read_timers();
     }
@@ -1233,15 +1255,15 @@ fn clocks_in_handlers(script: &mut Script, random: &mut Random) {
 
 // Damaged records.
 
-pub(crate) fn small_record(random: &mut Random) -> Record {
-    let mut script = Script::new(random);
+pub(crate) fn small_record(random: &mut Random, limits: Limits) -> Record {
+    let mut script = Script::new(random, limits);
     script.room = random.between(0, 12) as usize;
     script.wander(&EVEN, 12);
     script.record()
 }
 
-fn truncated(random: &mut Random) -> Vec<u8> {
-    let mut bytes = bytes_of(&small_record(random));
+fn truncated(random: &mut Random, limits: Limits) -> Vec<u8> {
+    let mut bytes = bytes_of(&small_record(random, limits));
     let cut = match random.below(4) {
         0 => 1,
         1 => 4,
@@ -1252,8 +1274,8 @@ fn truncated(random: &mut Random) -> Vec<u8> {
     bytes
 }
 
-fn extended(random: &mut Random) -> Vec<u8> {
-    let mut bytes = bytes_of(&small_record(random));
+fn extended(random: &mut Random, limits: Limits) -> Vec<u8> {
+    let mut bytes = bytes_of(&small_record(random, limits));
     let more = match random.below(4) {
         0 => 1,
         1 => 4,
@@ -1271,25 +1293,26 @@ fn put_word(bytes: &mut [u8], place: usize, word: u32) {
     bytes[4 * place..4 * place + 4].copy_from_slice(&word.to_le_bytes());
 }
 
-fn wrong_count(random: &mut Random) -> Vec<u8> {
-    let record = small_record(random);
+fn wrong_count(random: &mut Random, limits: Limits) -> Vec<u8> {
+    let record = small_record(random, limits);
     let count = record.events.len() as u32;
+    let most = limits.events as u32;
     let mut bytes = bytes_of(&record);
     let wrong = match random.below(6) {
         0 => count + 1,
         1 => count.wrapping_sub(1),
-        2 => random.pick(&[3999, 4000, 4001, 4002]),
+        2 => random.pick(&[most - 1, most, most + 1, most + 2]),
         3 => count.swap_bytes(),
         4 => count | 1 << random.between(8, 31),
-        _ => random.below(8000),
+        _ => random.below(2 * most),
     };
     put_word(&mut bytes, 0, wrong);
     bytes
 }
 
 /// Counts whose length would fit if it were taken modulo a power of 2.
-fn huge_count(random: &mut Random) -> Vec<u8> {
-    let record = small_record(random);
+fn huge_count(random: &mut Random, limits: Limits) -> Vec<u8> {
+    let record = small_record(random, limits);
     let count = record.events.len() as u32;
     let mut bytes = bytes_of(&record);
     let wrong = match random.below(5) {
@@ -1303,28 +1326,28 @@ fn huge_count(random: &mut Random) -> Vec<u8> {
     bytes
 }
 
-fn bad_sources(random: &mut Random) -> u32 {
+fn bad_sources(random: &mut Random, limits: Limits) -> u32 {
     match random.below(6) {
-        0..=2 => random.pick(&[0, 1, 256, 257, u32::MAX]),
+        0..=2 => random.pick(&[0, 1, limits.sources + 1, limits.sources + 2, u32::MAX]),
         3 => random.between(2, 255) << (8 * random.between(1, 3)),
         4 => random.between(2, 255) | 1 << random.between(8, 31),
         _ => random.word() | 0x100,
     }
 }
 
-fn wrong_sources(random: &mut Random) -> Vec<u8> {
-    let mut bytes = bytes_of(&small_record(random));
-    let wrong = bad_sources(random);
+fn wrong_sources(random: &mut Random, limits: Limits) -> Vec<u8> {
+    let mut bytes = bytes_of(&small_record(random, limits));
+    let wrong = bad_sources(random, limits);
     put_word(&mut bytes, 1, wrong);
     bytes
 }
 
 /// Bits flipped anywhere, or only where the reader still takes the record.
-fn flipped(random: &mut Random) -> Vec<u8> {
+fn flipped(random: &mut Random, limits: Limits) -> Vec<u8> {
     if random.coin() {
-        return flipped_events(random);
+        return flipped_events(random, limits);
     }
-    let mut bytes = bytes_of(&small_record(random));
+    let mut bytes = bytes_of(&small_record(random, limits));
     for _ in 0..random.between(1, 3) {
         let place = random.below(bytes.len() as u32) as usize;
         bytes[place] ^= 1 << random.below(8);
@@ -1333,8 +1356,8 @@ fn flipped(random: &mut Random) -> Vec<u8> {
 }
 
 /// Kinds, addresses and values flipped with no look at the state; the unused parts stay 0.
-fn flipped_events(random: &mut Random) -> Vec<u8> {
-    let mut record = with_events(random);
+fn flipped_events(random: &mut Random, limits: Limits) -> Vec<u8> {
+    let mut record = with_events(random, limits);
     let mut flips = random.between(1, 6);
     while flips > 0 {
         let place = random.below(record.events.len() as u32) as usize;
@@ -1352,9 +1375,9 @@ fn flipped_events(random: &mut Random) -> Vec<u8> {
     bytes_of(&record)
 }
 
-fn tiny(random: &mut Random) -> Vec<u8> {
+fn tiny(random: &mut Random, limits: Limits) -> Vec<u8> {
     let size = random.below(10) as usize;
-    let mut bytes = lay_out(random.below(2), choose_count(random), &[0], &[0]);
+    let mut bytes = lay_out(random.below(2), choose_count(random, limits), &[0], &[0]);
     if random.chance(1, 4) {
         bytes = (0..size).map(|_| random.word() as u8).collect();
     }
@@ -1362,21 +1385,21 @@ fn tiny(random: &mut Random) -> Vec<u8> {
     bytes
 }
 
-/// Input of more than 32,008 bytes, the longest record.
-fn too_long(random: &mut Random) -> Vec<u8> {
-    let longest = 8 + 8 * MOST_EVENTS;
+/// Input that is longer than the longest record.
+fn too_long(random: &mut Random, limits: Limits) -> Vec<u8> {
+    let (longest, most) = (limits.longest(), limits.events as u32);
     let mut bytes = vec![0; longest];
     let (count, extra) = match random.below(5) {
-        0 => (4000, random.pick(&[1, 2, 4, 7, 8, 9])),
-        1 => (4001, 8),
-        2 => (4000, random.between(1, 5000)),
-        3 => (random.below(4100), random.between(1, 150_000)),
+        0 => (most, random.pick(&[1, 2, 4, 7, 8, 9])),
+        1 => (most + 1, 8),
+        2 => (most, random.between(1, 5000)),
+        3 => (random.below(most + 100), random.between(1, 150_000)),
         _ => (0, random.between(1, 40_000)),
     };
     put_word(&mut bytes, 0, count);
-    put_word(&mut bytes, 1, choose_count(random));
+    put_word(&mut bytes, 1, choose_count(random, limits));
     if random.chance(1, 8) {
-        put_word(&mut bytes, 1, bad_sources(random));
+        put_word(&mut bytes, 1, bad_sources(random, limits));
     }
     bytes.resize(longest + extra as usize, random.word() as u8);
     bytes
@@ -1404,15 +1427,15 @@ pub(crate) fn use_unused(event: &mut Event, random: &mut Random) {
     }
 }
 
-pub(crate) fn with_events(random: &mut Random) -> Record {
-    let mut script = Script::new(random);
+pub(crate) fn with_events(random: &mut Random, limits: Limits) -> Record {
+    let mut script = Script::new(random, limits);
     script.room = random.between(1, 30) as usize;
     script.wander(&EVEN, 30);
     script.record()
 }
 
-fn unknown_kind(random: &mut Random) -> Vec<u8> {
-    let mut record = with_events(random);
+fn unknown_kind(random: &mut Random, limits: Limits) -> Vec<u8> {
+    let mut record = with_events(random, limits);
     for _ in 0..random.between(1, 2) {
         let place = random.below(record.events.len() as u32) as usize;
         let event = &mut record.events[place];
@@ -1428,8 +1451,8 @@ fn unknown_kind(random: &mut Random) -> Vec<u8> {
     bytes_of(&record)
 }
 
-fn unused_parts(random: &mut Random) -> Vec<u8> {
-    let mut record = with_events(random);
+fn unused_parts(random: &mut Random, limits: Limits) -> Vec<u8> {
+    let mut record = with_events(random, limits);
     for _ in 0..random.between(1, 4) {
         let place = random.below(record.events.len() as u32) as usize;
         let event = &mut record.events[place];
@@ -1442,23 +1465,32 @@ fn unused_parts(random: &mut Random) -> Vec<u8> {
 }
 
 /// An unknown kind and a used unused part; the earlier event decides.
-fn kind_and_unused(random: &mut Random) -> Vec<u8> {
-    let mut record = with_events(random);
+fn kind_and_unused(random: &mut Random, limits: Limits) -> Vec<u8> {
+    let mut record = with_events(random, limits);
     for _ in 0..2 {
         let place = random.between(0, record.events.len() as u32) as usize;
-        let mut unused = Event::new(random.pick(&[1, 3, 5, 6, 7, 8, 9, 10]), 0, 0);
-        use_unused(&mut unused, random);
-        record.events.insert(place, unused);
+        record.events.insert(place, unused_event(random));
         let place = random.between(0, record.events.len() as u32) as usize;
-        let unknown = Event::new(bad_kind(random), 0, random.below(2));
-        record.events.insert(place, unknown);
+        record.events.insert(place, unknown_event(random));
     }
     bytes_of(&record)
 }
 
+/// An event that fails question 6.
+fn unknown_event(random: &mut Random) -> Event {
+    Event::new(bad_kind(random), 0, random.below(2))
+}
+
+/// An event that fails question 7.
+fn unused_event(random: &mut Random) -> Event {
+    let mut event = Event::new(random.pick(&[1, 3, 5, 6, 7, 8, 9, 10]), 0, 0);
+    use_unused(&mut event, random);
+    event
+}
+
 /// Some of the faults that the questions look for, all in one record.
-fn several_faults(random: &mut Random) -> Vec<u8> {
-    let mut record = with_events(random);
+fn several_faults(random: &mut Random, limits: Limits) -> Vec<u8> {
+    let mut record = with_events(random, limits);
     if random.coin() {
         let place = random.below(record.events.len() as u32) as usize;
         let kind = bad_kind(random);
@@ -1470,10 +1502,11 @@ fn several_faults(random: &mut Random) -> Vec<u8> {
     }
     let mut bytes = bytes_of(&record);
     if random.chance(1, 3) {
-        put_word(&mut bytes, 0, random.pick(&[4001, 5000, 0x10000, u32::MAX]));
+        let counts = [limits.events as u32 + 1, 5000, 0x10000, u32::MAX];
+        put_word(&mut bytes, 0, random.pick(&counts));
     }
     if random.chance(1, 3) {
-        put_word(&mut bytes, 1, bad_sources(random));
+        put_word(&mut bytes, 1, bad_sources(random, limits));
     }
     match random.below(6) {
         0 => bytes.push(0),
@@ -1485,15 +1518,15 @@ fn several_faults(random: &mut Random) -> Vec<u8> {
 }
 
 /// Random words that the reader takes, a fitting head over random words, or random bytes alone.
-fn noise(random: &mut Random) -> Vec<u8> {
+fn noise(random: &mut Random, limits: Limits) -> Vec<u8> {
     if random.coin() {
-        return noise_of_events(random);
+        return noise_of_events(random, limits);
     }
     let count = random.below(20);
     let mut bytes: Vec<u8> = (0..8 + 8 * count).map(|_| random.word() as u8).collect();
     if random.chance(3, 4) {
         put_word(&mut bytes, 0, count);
-        put_word(&mut bytes, 1, choose_count(random));
+        put_word(&mut bytes, 1, choose_count(random, limits));
     }
     if random.coin() {
         // Known kinds over random addresses and values.
@@ -1510,8 +1543,8 @@ fn noise(random: &mut Random) -> Vec<u8> {
 
 /// Known kinds over random words, often cut to what the kind looks at; the unused parts are 0.
 /// Before them come a few events that lead somewhere.
-fn noise_of_events(random: &mut Random) -> Vec<u8> {
-    let mut record = with_events(random);
+fn noise_of_events(random: &mut Random, limits: Limits) -> Vec<u8> {
+    let mut record = with_events(random, limits);
     let cut = random.below(9);
     for _ in 0..random.between(1, 100) {
         let kind = random.below(KINDS);
@@ -1538,13 +1571,91 @@ fn noise_of_events(random: &mut Random) -> Vec<u8> {
     bytes_of(&record)
 }
 
+/// N and n at the limits of both readers, with events and a length that fit or don't. The limits
+/// themselves and what is just above come twice as often.
+fn at_limits(random: &mut Random, limits: Limits) -> Vec<u8> {
+    // No fault, one alone, or each more often than not.
+    let alone = random.below(4);
+    let faults = match random.below(7) {
+        0 | 1 => [false; 4],
+        2 | 3 => [0, 1, 2, 3].map(|place| place == alone),
+        _ => [(); 4].map(|()| random.chance(2, 3)),
+    };
+    let [sources_fault, count_fault, event_fault, length_fault] = faults;
+
+    let huge = random.pick(&[2, 63, 255]) | 1 << random.between(8, 31);
+    let edges = [
+        0, 1, 2, 62, 63, 63, 64, 64, 65, 254, 255, 255, 256, 256, 257, huge,
+    ];
+    let sources = edge(&edges, 2..=limits.sources, !sources_fault, random);
+    let huge = random.pick(&[0, 1, 500, 4000]) | 1 << random.between(13, 31);
+    let edges = [
+        0, 1, 499, 500, 500, 501, 501, 3999, 4000, 4000, 4001, 4001, 5000, huge,
+    ];
+    let count = edge(&edges, 0..=limits.events as u32, !count_fault, random);
+
+    // A huge count is over the events of its low bits.
+    let mut events = many_events((count % 0x2000) as usize, sources.clamp(2, 255), random);
+    if event_fault && !events.is_empty() {
+        spoil_events(&mut events, random);
+    }
+    let mut bytes = bytes_of(&Record { sources, events });
+    put_word(&mut bytes, 0, count);
+    if length_fault {
+        let wrong = wrong_length(bytes.len(), random);
+        let byte = if random.coin() { 0 } else { random.word() };
+        bytes.resize(wrong, byte as u8);
+    }
+    bytes
+}
+
+/// One of the edges in the range, or one outside it.
+fn edge(edges: &[u32], range: RangeInclusive<u32>, inside: bool, random: &mut Random) -> u32 {
+    let mut choices = edges.to_vec();
+    choices.retain(|edge| range.contains(edge) == inside);
+    random.pick(&choices)
+}
+
+/// So many events; from some place on they come again from the first.
+fn many_events(count: usize, sources: u32, random: &mut Random) -> Vec<Event> {
+    let mut script = Script::with_count(random, sources, count.min(COMPACT.events));
+    fill(&mut script, random);
+    script.events.iter().copied().cycle().take(count).collect()
+}
+
+/// One or two events that fail question 6 or 7, often the first or the last.
+fn spoil_events(events: &mut [Event], random: &mut Random) {
+    let size = events.len() as u32;
+    for _ in 0..random.between(1, 2) {
+        let any = random.below(size);
+        let place = random.pick(&[0, size - 1, any]);
+        events[place as usize] = if random.coin() {
+            unknown_event(random)
+        } else {
+            unused_event(random)
+        };
+    }
+}
+
+/// A little more or less, the sizes alone or not even they, or more than either reader's longest.
+fn wrong_length(right: usize, random: &mut Random) -> usize {
+    let little = random.pick(&[1, 4, 8]);
+    match random.below(8) {
+        0..=2 => right + little,
+        3 => right - little.min(right),
+        4 => 8,
+        5 => random.below(8) as usize,
+        6 => COMPACT.longest() + random.between(1, 9) as usize,
+        _ => BOARD.longest() + random.between(1, 9) as usize,
+    }
+}
+
 // Records for measurements.
 
 /// A record of exactly `size` events, all accepted: `samples`, `mixed` or `nested`.
 pub fn bench_record(name: &str, size: usize) -> Option<Vec<u8>> {
     let mut random = Random::new(0x0BE2_C41E);
-    let mut script = Script::with_count(&mut random, 255);
-    script.room = size;
+    let mut script = Script::with_count(&mut random, 255, size);
     match name {
         "samples" => bench_samples(&mut script, &mut random),
         "mixed" => bench_mixed(&mut script, &mut random),

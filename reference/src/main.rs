@@ -1,11 +1,12 @@
-//! Commands: play, text, generate, compare, compare-text, listing, bench-record.
+//! Commands: play, text, generate, compare, compare-text, listing, bench-record, and play-compact,
+//! generate-compact, compare-compact for the compact player.
 
 use reference::compare::{compare, Comparison, Difference, Verdict};
 use reference::compare_text::compare_text;
 use reference::generate::{bench_record, generate};
 use reference::player;
 use reference::program::Program;
-use reference::record::{listing, write_record, MOST_EVENTS};
+use reference::record::{listing, write_record, Limits, BOARD, COMPACT, MOST_EVENTS};
 use reference::text::{to_record, MOST_BYTES};
 use std::fs;
 use std::io::{self, Read, Write};
@@ -14,9 +15,12 @@ use std::process::ExitCode;
 
 const USAGE: &str = "\
 usage: reference play < RECORD
+       reference play-compact < RECORD
        reference text < TEXT > RECORD
        reference generate SEED INDEX OUTFILE
+       reference generate-compact SEED INDEX OUTFILE
        reference compare PLAYER COUNT SEED [ARGUMENT OF PLAYER]...
+       reference compare-compact PLAYER COUNT SEED [ARGUMENT OF PLAYER]...
        reference compare-text CONVERTER COUNT SEED [ARGUMENT OF CONVERTER]...
        reference listing OUTFILE
        reference bench-record samples|mixed|nested EVENTS OUTFILE";
@@ -27,11 +31,16 @@ fn main() -> ExitCode {
     let arguments: Vec<String> = std::env::args().skip(1).collect();
     let words: Vec<&str> = arguments.iter().map(String::as_str).collect();
     let result = match words[..] {
-        ["play"] => play(),
+        ["play"] => play(BOARD),
+        ["play-compact"] => play(COMPACT),
         ["text"] => text(),
-        ["generate", seed, index, file] => generate_file(seed, index, file),
+        ["generate", seed, index, file] => generate_file(seed, index, file, BOARD),
+        ["generate-compact", seed, index, file] => generate_file(seed, index, file, COMPACT),
         ["compare", player, count, seed, ..] => {
-            compare_players(player, count, seed, &arguments[4..])
+            compare_players(player, count, seed, &arguments[4..], BOARD)
+        }
+        ["compare-compact", player, count, seed, ..] => {
+            compare_players(player, count, seed, &arguments[4..], COMPACT)
         }
         ["compare-text", converter, count, seed, ..] => {
             compare_converters(converter, count, seed, &arguments[4..])
@@ -74,9 +83,9 @@ fn write_file(file: &str, bytes: &[u8]) -> Result<(), Failure> {
     fs::write(file, bytes).map_err(|error| format!("cannot write {file}: {error}").into())
 }
 
-fn play() -> Result<ExitCode, Failure> {
+fn play(limits: Limits) -> Result<ExitCode, Failure> {
     let bytes = input(u64::MAX)?;
-    say(player::print(&bytes).as_bytes())?;
+    say(player::print(&bytes, limits).as_bytes())?;
     Ok(ExitCode::SUCCESS)
 }
 
@@ -94,8 +103,8 @@ fn text() -> Result<ExitCode, Failure> {
     }
 }
 
-fn generate_file(seed: &str, index: &str, file: &str) -> Result<ExitCode, Failure> {
-    let generated = generate(number(seed)?, number(index)?);
+fn generate_file(seed: &str, index: &str, file: &str, limits: Limits) -> Result<ExitCode, Failure> {
+    let generated = generate(number(seed)?, number(index)?, limits);
     write_file(file, &generated.bytes)?;
     let size = generated.bytes.len();
     say(format!("family {}: {size} bytes\n", generated.family).as_bytes())?;
@@ -107,6 +116,7 @@ fn compare_players(
     count: &str,
     seed: &str,
     arguments: &[String],
+    limits: Limits,
 ) -> Result<ExitCode, Failure> {
     let path = &program_path(player)?;
     let comparison = Comparison {
@@ -114,7 +124,7 @@ fn compare_players(
         count: number(count)?,
         seed: number(seed)?,
     };
-    match compare(&comparison)? {
+    match compare(&comparison, limits)? {
         Verdict::Alike(summary) => alike(&summary.text()),
         Verdict::Different(found) => different(&found, "difference.rec"),
     }

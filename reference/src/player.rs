@@ -2,7 +2,7 @@
 
 use crate::event::{CHAIN, KINDS};
 use crate::machine::Machine;
-use crate::record::{self, Record, MOST_EVENTS};
+use crate::record::{self, Limits, Record};
 use std::fmt::Write;
 
 /// What a playing showed, for a summary of many playings.
@@ -10,7 +10,7 @@ use std::fmt::Write;
 pub struct Tally {
     pub events: u64,
     /// How often each refusal number was printed.
-    pub refusals: [u64; 22],
+    pub refusals: [u64; 24],
     /// Accepted events by kind.
     pub accepted: [u64; KINDS as usize],
     pub chains_served: u64,
@@ -31,15 +31,15 @@ impl Tally {
     }
 }
 
-/// The printed text for the bytes of a record, good or bad.
-pub fn print(bytes: &[u8]) -> String {
-    play(bytes).0
+/// The text that a player of these limits prints for the bytes of a record, good or bad.
+pub fn print(bytes: &[u8], limits: Limits) -> String {
+    play(bytes, limits).0
 }
 
-pub fn play(bytes: &[u8]) -> (String, Tally) {
+pub fn play(bytes: &[u8], limits: Limits) -> (String, Tally) {
     let mut text = String::new();
     let mut tally = Tally::default();
-    match record::read(bytes, MOST_EVENTS) {
+    match record::read(bytes, limits, limits.events) {
         Ok(record) => play_record(&record, &mut text, &mut tally),
         Err(refusal) => {
             tally.refusals[refusal.number as usize] += 1;

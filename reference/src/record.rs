@@ -5,6 +5,32 @@ use crate::event::Event;
 /// The most events that a record holds.
 pub const MOST_EVENTS: usize = 4000;
 
+/// The most sources and the most events that a reader takes.
+#[derive(Clone, Copy, Debug, PartialEq, Eq)]
+pub struct Limits {
+    pub sources: u32,
+    pub events: usize,
+}
+
+/// The big player's reader takes all that questions 2 and 3 let pass.
+pub const BOARD: Limits = Limits {
+    sources: 255,
+    events: MOST_EVENTS,
+};
+
+/// The compact player's reader, for short records on little memory.
+pub const COMPACT: Limits = Limits {
+    sources: 63,
+    events: 500,
+};
+
+impl Limits {
+    /// The bytes of the longest record.
+    pub fn longest(self) -> usize {
+        8 + 8 * self.events
+    }
+}
+
 #[derive(Clone, Debug, PartialEq, Eq)]
 pub struct Record {
     pub sources: u32,
@@ -37,8 +63,8 @@ fn walk(events: &[Event]) -> Result<(), Refusal> {
     Ok(())
 }
 
-/// Reads a record; `room` is how many events the destination holds.
-pub fn read(bytes: &[u8], room: usize) -> Result<Record, Refusal> {
+/// Reads a record within the reader's limits; `room` is how many events the destination holds.
+pub fn read(bytes: &[u8], limits: Limits, room: usize) -> Result<Record, Refusal> {
     if bytes.len() < 8 {
         return refuse(1);
     }
@@ -47,10 +73,16 @@ pub fn read(bytes: &[u8], room: usize) -> Result<Record, Refusal> {
     if !(2..=255).contains(&sources) {
         return refuse(2);
     }
+    if sources > limits.sources {
+        return refuse(22);
+    }
     if count as usize > MOST_EVENTS {
         return refuse(3);
     }
     let count = count as usize;
+    if count > limits.events {
+        return refuse(23);
+    }
     if bytes.len() != 8 + 8 * count {
         return refuse(4);
     }
@@ -98,7 +130,7 @@ pub fn lay_out(count: u32, sources: u32, heads: &[u32], values: &[u32]) -> Vec<u
 pub fn write_record(record: &Record) -> Result<Vec<u8>, Refusal> {
     let heads: Vec<u32> = record.events.iter().map(|event| event.head).collect();
     let values: Vec<u32> = record.events.iter().map(|event| event.value).collect();
-    write(record.sources, &heads, &values, 8 + 8 * MOST_EVENTS)
+    write(record.sources, &heads, &values, BOARD.longest())
 }
 
 /// The record of four sources and ten events whose print the specification lists.

@@ -4,7 +4,7 @@
 use crate::event::*;
 use crate::machine::*;
 use crate::random::Random;
-use crate::record::{Record, MOST_EVENTS};
+use crate::record::{Limits, Record};
 use crate::timer::*;
 
 /// How often each sort of step is chosen while wandering.
@@ -53,27 +53,29 @@ pub struct Script {
     pub focus: Vec<u32>,
 }
 
-/// N at the edges of the range and of the words, or any.
-pub fn choose_count(random: &mut Random) -> u32 {
+/// N at the edges of the range and of the words, or any, within the limits.
+pub fn choose_count(random: &mut Random, limits: Limits) -> u32 {
+    let mut edges = vec![2, 3, 4, 31, 32, 33, 63, 64, 65, 255];
+    edges.retain(|&count| count <= limits.sources);
     if random.chance(2, 3) {
-        random.pick(&[2, 3, 4, 31, 32, 33, 63, 64, 65, 255])
+        random.pick(&edges)
     } else {
-        random.between(2, 255)
+        random.between(2, limits.sources)
     }
 }
 
 impl Script {
-    pub fn new(random: &mut Random) -> Script {
-        let count = choose_count(random);
-        Script::with_count(random, count)
+    pub fn new(random: &mut Random, limits: Limits) -> Script {
+        let count = choose_count(random, limits);
+        Script::with_count(random, count, limits.events)
     }
 
-    pub fn with_count(random: &mut Random, count: u32) -> Script {
+    pub fn with_count(random: &mut Random, count: u32, room: usize) -> Script {
         let mut script = Script {
             random: Random::new(random.draw()),
             machine: Machine::power_on(count).0,
             events: Vec::new(),
-            room: MOST_EVENTS,
+            room,
             focus: Vec::new(),
         };
         script.refocus();

@@ -1,7 +1,7 @@
 //! The record of a text: a line for N in decimal, then one for each event, its head and value in
 //! hexadecimal.
 
-use crate::record::{self, Record, Refusal, MOST_EVENTS};
+use crate::record::{self, Record, Refusal, BOARD, MOST_EVENTS};
 use std::fmt;
 
 /// The most bytes that a text has.
@@ -69,7 +69,7 @@ pub fn to_record(text: &[u8]) -> Result<Vec<u8>, Fault> {
         places.push(line);
     }
 
-    record::write(sources, &heads, &values, 8 + 8 * MOST_EVENTS).map_err(|refusal| {
+    record::write(sources, &heads, &values, BOARD.longest()).map_err(|refusal| {
         let line = match refusal.number {
             2 => first,
             _ => places[refusal.place],

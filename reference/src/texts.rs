@@ -3,7 +3,7 @@
 use crate::event::{Event, KINDS};
 use crate::generate::{self, bad_kind, small_record, turn, use_unused, with_events};
 use crate::random::Random;
-use crate::record::{self, Record, MOST_EVENTS};
+use crate::record::{self, Record, BOARD};
 use crate::text::{canonical, MOST_BYTES};
 
 pub struct Text {
@@ -54,7 +54,7 @@ pub fn make(seed: u64, index: u64) -> Text {
 fn any_record(random: &mut Random) -> Record {
     loop {
         let (_, build) = random.pick(generate::FAMILIES);
-        if let Ok(record) = record::read(&build(random), MOST_EVENTS) {
+        if let Ok(record) = record::read(&build(random, BOARD), BOARD, BOARD.events) {
             return record;
         }
     }
@@ -65,7 +65,7 @@ fn plain(random: &mut Random) -> Vec<u8> {
 }
 
 fn dressed(random: &mut Random) -> Vec<u8> {
-    let record = small_record(random);
+    let record = small_record(random, BOARD);
     dress(&record, random)
 }
 
@@ -178,7 +178,7 @@ fn put_comment(text: &mut Vec<u8>, size: usize, random: &mut Random) {
 
 /// A good text of some events, plain or dressed.
 fn sound(random: &mut Random) -> Vec<u8> {
-    let record = with_events(random);
+    let record = with_events(random, BOARD);
     if random.coin() {
         canonical(&record)
     } else {
@@ -282,7 +282,7 @@ fn colons(random: &mut Random) -> Vec<u8> {
 
 /// Too many digits or none, signs, prefixes, and the bytes just beside the digits.
 fn digits(random: &mut Random) -> Vec<u8> {
-    let mut record = with_events(random);
+    let mut record = with_events(random, BOARD);
     let place = random.below(record.events.len() as u32) as usize;
     let event = &mut record.events[place];
     if random.coin() {
@@ -371,7 +371,7 @@ fn lines_moved(random: &mut Random) -> Vec<u8> {
 
 /// The end of the last line in all its forms.
 fn last_line(random: &mut Random) -> Vec<u8> {
-    let mut record = small_record(random);
+    let mut record = small_record(random, BOARD);
     if random.chance(1, 3) {
         record.events.clear();
     }
@@ -386,7 +386,7 @@ fn last_line(random: &mut Random) -> Vec<u8> {
 }
 
 fn wrong_sources(random: &mut Random) -> Vec<u8> {
-    let mut record = small_record(random);
+    let mut record = small_record(random, BOARD);
     record.sources = random.pick(&[0, 1, 2, 255, 256, 257, 999, 1000]);
     dress_or_not(&record, random)
 }
@@ -416,7 +416,7 @@ fn spoil_unused(record: &mut Record, random: &mut Random) {
 }
 
 fn unknown_kind(random: &mut Random) -> Vec<u8> {
-    let mut record = with_events(random);
+    let mut record = with_events(random, BOARD);
     for _ in 0..random.between(1, 2) {
         spoil_kind(&mut record, random);
     }
@@ -424,7 +424,7 @@ fn unknown_kind(random: &mut Random) -> Vec<u8> {
 }
 
 fn unused_parts(random: &mut Random) -> Vec<u8> {
-    let mut record = with_events(random);
+    let mut record = with_events(random, BOARD);
     // Of an unknown kind and a used unused part the earlier decides.
     if random.chance(1, 3) {
         spoil_kind(&mut record, random);
@@ -437,7 +437,7 @@ fn unused_parts(random: &mut Random) -> Vec<u8> {
 
 /// Faults of the record and bad lines in one text.
 fn several_faults(random: &mut Random) -> Vec<u8> {
-    let mut record = with_events(random);
+    let mut record = with_events(random, BOARD);
     if random.coin() {
         spoil_kind(&mut record, random);
     }
@@ -479,7 +479,7 @@ fn empty(random: &mut Random) -> Vec<u8> {
 /// About as many events as a record holds.
 fn event_counts(random: &mut Random) -> Vec<u8> {
     let count = random.pick(&[3999, 4000, 4000, 4001, 4002]);
-    let some = with_events(random);
+    let some = with_events(random, BOARD);
     let mut record = Record {
         sources: some.sources,
         events: some.events.iter().copied().cycle().take(count).collect(),

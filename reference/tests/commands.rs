@@ -2,8 +2,9 @@
 
 use reference::compare::{compare, Comparison, Difference, Verdict};
 use reference::compare_text::compare_text;
-use reference::generate::FAMILIES;
+use reference::generate::{generate, FAMILIES};
 use reference::program::Program;
+use reference::record::{lay_out, Limits, BOARD, COMPACT};
 use reference::text::to_record;
 use reference::texts;
 use std::fs;
@@ -51,33 +52,132 @@ fn filtered(filter: &str, count: u64) -> Difference {
         count,
         seed: 1,
     };
-    match compare(&comparison).unwrap() {
+    match compare(&comparison, BOARD).unwrap() {
         Verdict::Alike(_) => panic!("{filter} should make a difference"),
         Verdict::Different(found) => found,
     }
 }
 
-#[test]
-fn its_own_player_is_alike() {
+/// The summary of `count` records that one of this program's own players prints alike.
+fn alike(player: &str, count: u64, limits: Limits) -> String {
     let comparison = Comparison {
         program: Program {
             path: Path::new(PROGRAM),
-            arguments: &["play".to_string()],
+            arguments: &[player.to_string()],
         },
-        count: 2 * FAMILIES.len() as u64,
+        count,
         seed: 1,
     };
-    match compare(&comparison).unwrap() {
-        Verdict::Alike(summary) => {
-            let text = summary.text();
-            assert!(text.starts_with(&format!("compared {} records: alike\n", comparison.count)));
-            for (name, _) in FAMILIES {
-                assert!(text.contains(&format!("family {name}: records 2 ")));
-            }
-            assert!(text.contains("\nkind 9 (set mask): accepted "));
-            assert!(text.contains("\nkind 10 (clock): accepted "));
-        }
+    match compare(&comparison, limits).unwrap() {
+        Verdict::Alike(summary) => summary.text(),
         Verdict::Different(found) => panic!("{}", found.text()),
+    }
+}
+
+#[test]
+fn its_own_player_is_alike() {
+    let count = 2 * FAMILIES.len() as u64;
+    let text = alike("play", count, BOARD);
+    assert!(text.starts_with(&format!("compared {count} records: alike\n")));
+    for (name, _) in FAMILIES {
+        assert!(text.contains(&format!("family {name}: records 2 ")));
+    }
+    assert!(text.contains("\nkind 9 (set mask): accepted "));
+    assert!(text.contains("\nkind 10 (clock): accepted "));
+    assert!(!text.contains("\nrefusal 22: ") && !text.contains("\nrefusal 23: "));
+}
+
+#[test]
+fn its_own_compact_player_is_alike() {
+    // Every family twice, and half as many more about the limits.
+    let rounds = 2 * FAMILIES.len() as u64;
+    let count = rounds + rounds / 2;
+    let text = alike("play-compact", count, COMPACT);
+    assert!(text.starts_with(&format!("compared {count} records: alike\n")));
+    for (name, _) in FAMILIES {
+        let records = match *name {
+            "limits" => 2 + rounds / 2,
+            _ => 2,
+        };
+        let start = format!("family {name}: records {records} ");
+        assert!(text.contains(&start), "{start}");
+    }
+    assert!(text.contains("\nkind 10 (clock): accepted "));
+    assert!(text.contains("\nrefusal 22: ") && text.contains("\nrefusal 23: "));
+}
+
+#[test]
+fn the_players_differ_in_their_limits() {
+    let folder = folder("limits");
+    let report = |command: &str, player: &str| {
+        let output = run(&folder, &[command, PROGRAM, "400", "1", player], b"");
+        ended(&output, 1, "");
+        String::from_utf8(output.stdout).unwrap()
+    };
+    let refused = |text: &str, by: &str| {
+        let line = |number: &u32| format!("\n  {by} \"refused {number} at 0\\n\"\n");
+        [22, 23].iter().any(|number| text.contains(&line(number)))
+    };
+    let text = report("compare", "play-compact");
+    assert!(text.contains("\nline 1, the first line\n"), "{text}");
+    assert!(refused(&text, "player   "), "{text}");
+    let text = report("compare-compact", "play");
+    assert!(
+        text.contains("\nline 1, the line of the refusal\n"),
+        "{text}"
+    );
+    assert!(refused(&text, "reference"), "{text}");
+}
+
+#[test]
+fn play_compact_prints_what_play_does_within_its_limits() {
+    let folder = folder("play");
+    let printed = |command: &str, bytes: &[u8]| {
+        let output = run(&folder, &[command], bytes);
+        ended(&output, 0, "");
+        String::from_utf8(output.stdout).unwrap()
+    };
+    // Samples of all lines.
+    let record = |sources, events: usize| {
+        let (heads, values) = (vec![0; events], vec![u32::MAX; events]);
+        lay_out(events as u32, sources, &heads, &values)
+    };
+    let full = record(63, 500);
+    let text = printed("play-compact", &full);
+    assert!(text.starts_with("sources 63 events 500\n0 0 0 0\n"));
+    assert!(text.ends_with("\n499 0 0 0\nend open 0 level 0 margin 0\n"));
+    assert_eq!(printed("play", &full), text);
+    for (sources, events, refused) in [
+        (64, 500, "refused 22 at 0\n"),
+        (63, 501, "refused 23 at 0\n"),
+        (255, 4000, "refused 22 at 0\n"),
+    ] {
+        let bytes = record(sources, events);
+        assert_eq!(printed("play-compact", &bytes), refused);
+        let start = format!("sources {sources} events {events}\n");
+        assert!(printed("play", &bytes).starts_with(&start));
+    }
+    // More input than the longest record.
+    for more in [1, 2, 8, 100_000] {
+        let mut longer = full.clone();
+        longer.resize(full.len() + more, 0);
+        assert_eq!(printed("play-compact", &longer), "refused 4 at 0\n");
+    }
+}
+
+#[test]
+fn generate_writes_the_record() {
+    let folder = folder("generate");
+    for (command, limits) in [("generate", BOARD), ("generate-compact", COMPACT)] {
+        for index in ["3", "4", "27"] {
+            let output = run(&folder, &[command, "1", index, "out"], b"");
+            ended(&output, 0, "");
+            let generated = generate(1, index.parse().unwrap(), limits);
+            assert_eq!(fs::read(folder.join("out")).unwrap(), generated.bytes);
+            let size = generated.bytes.len();
+            let line = format!("family {}: {size} bytes\n", generated.family);
+            assert_eq!(String::from_utf8(output.stdout).unwrap(), line);
+        }
     }
 }
 
@@ -122,19 +222,27 @@ fn an_end_by_a_signal_is_a_difference() {
 #[test]
 fn compare_writes_the_record_and_its_report() {
     let folder = folder("compare");
-    let output = run(&folder, &["compare", PROGRAM, "3", "1", "listing"], b"");
-    assert_eq!(output.status.code(), Some(1));
-    let text = String::from_utf8(output.stdout).unwrap();
-    assert!(text.starts_with("seed 1, record 0, family no events: different\n"));
-    assert!(text.ends_with("\nthe record is in difference.rec\n"));
-    let record = fs::read(folder.join("difference.rec")).unwrap();
-    assert_eq!(record, reference::generate::generate(1, 0).bytes);
+    for (command, limits) in [("compare", BOARD), ("compare-compact", COMPACT)] {
+        let output = run(&folder, &[command, PROGRAM, "3", "2", "listing"], b"");
+        assert_eq!(output.status.code(), Some(1));
+        let text = String::from_utf8(output.stdout).unwrap();
+        assert!(text.starts_with("seed 2, record 0, family no events: different\n"));
+        assert!(text.ends_with("\nthe record is in difference.rec\n"));
+        let record = fs::read(folder.join("difference.rec")).unwrap();
+        assert_eq!(record, generate(2, 0, limits).bytes);
+    }
+    // The seed gives another record to each.
+    assert_ne!(generate(2, 0, BOARD).bytes, generate(2, 0, COMPACT).bytes);
 }
 
 #[test]
 fn a_count_of_0_is_an_error() {
     let folder = folder("count");
-    for (command, argument) in [("compare", "play"), ("compare-text", "text")] {
+    for (command, argument) in [
+        ("compare", "play"),
+        ("compare-compact", "play-compact"),
+        ("compare-text", "text"),
+    ] {
         let output = run(&folder, &[command, PROGRAM, "0", "1", argument], b"");
         ended(&output, 2, "COUNT is 0: nothing would be compared\n");
         assert!(output.stdout.is_empty());
@@ -147,13 +255,14 @@ fn failures_name_the_file() {
     let missing = "No such file or directory (os error 2)";
     for arguments in [
         &["generate", "1", "0", "none/out"][..],
+        &["generate-compact", "1", "0", "none/out"],
         &["listing", "none/out"],
         &["bench-record", "mixed", "10", "none/out"],
     ] {
         let output = run(&folder, arguments, b"");
         ended(&output, 2, &format!("cannot write none/out: {missing}\n"));
     }
-    for command in ["compare", "compare-text"] {
+    for command in ["compare", "compare-compact", "compare-text"] {
         let output = run(&folder, &[command, "none/player", "1", "1"], b"");
         ended(&output, 2, &format!("cannot find none/player: {missing}\n"));
         // A file that is no program.

@@ -5,7 +5,7 @@ use reference::generate::{bench_record, generate, FAMILIES};
 use reference::machine::Machine;
 use reference::player::{self, Tally};
 use reference::random::Random;
-use reference::record::{self, Record};
+use reference::record::{self, Record, BOARD};
 use reference::timer::{Timer, MITCTL, TIMER_CSRS};
 
 /// Enough for every family several times.
@@ -15,8 +15,8 @@ const RECORDS: u64 = 12 * FAMILIES.len() as u64;
 fn every_event_keeps_the_machine_sound() {
     let mut events = 0;
     for index in 0..RECORDS {
-        let generated = generate(7, index);
-        let record = match record::read(&generated.bytes, 4000) {
+        let generated = generate(7, index, BOARD);
+        let record = match record::read(&generated.bytes, BOARD, 4000) {
             Ok(record) => record,
             Err(_) => continue,
         };
@@ -41,13 +41,16 @@ fn every_event_keeps_the_machine_sound() {
 fn every_refusal_of_a_player_occurs() {
     let mut all = Tally::default();
     for index in 0..RECORDS {
-        all.add(&player::play(&generate(1, index).bytes).1);
+        all.add(&player::play(&generate(1, index, BOARD).bytes, BOARD).1);
     }
     for number in [1, 2, 3, 4, 6, 7].into_iter().chain(9..=21) {
         assert!(all.refusals[number] > 0, "refusal {number}");
     }
-    // The player's arrays hold any record, and its machine is sound.
-    assert_eq!((all.refusals[5], all.refusals[8]), (0, 0));
+    // The player's arrays hold any record, and its machine is sound. It takes every N and n that
+    // pass questions 2 and 3.
+    for number in [5, 8, 22, 23] {
+        assert_eq!(all.refusals[number], 0, "refusal {number}");
+    }
     assert!(all.accepted.iter().all(|&times| times > 100));
     assert!(all.chains_served > 100);
     assert_eq!(all.deepest, 15);
@@ -55,19 +58,19 @@ fn every_refusal_of_a_player_occurs() {
 
 fn records(family: &str, rounds: u64) -> Vec<Vec<u8>> {
     let (_, build) = FAMILIES.iter().find(|found| found.0 == family).unwrap();
-    let record = |round| build(&mut Random::for_index(1, round));
+    let record = |round| build(&mut Random::for_index(1, round), BOARD);
     (0..rounds).map(record).collect()
 }
 
 /// Of `rounds` records of a family, how many are accepted and have events.
 fn played(family: &str, rounds: u64) -> u64 {
-    let plays = |bytes: &&Vec<u8>| player::play(bytes).1.events > 0;
+    let plays = |bytes: &&Vec<u8>| player::play(bytes, BOARD).1.events > 0;
     records(family, rounds).iter().filter(plays).count() as u64
 }
 
 /// Those of `rounds` records that are accepted.
 fn accepted(family: &str, rounds: u64) -> Vec<Record> {
-    let read = |bytes: Vec<u8>| record::read(&bytes, 4000).ok();
+    let read = |bytes: Vec<u8>| record::read(&bytes, BOARD, 4000).ok();
     records(family, rounds)
         .into_iter()
         .filter_map(read)
@@ -184,7 +187,7 @@ fn some_records_are_refused_for_the_unused_parts_of_a_clock() {
     let mut all = records("unused parts", 200);
     all.extend(records("timers", 50));
     for bytes in all {
-        if let Err(refusal) = record::read(&bytes, 4000) {
+        if let Err(refusal) = record::read(&bytes, BOARD, 4000) {
             let word = |place: usize| {
                 let four = bytes[4 * place..4 * place + 4].try_into().unwrap();
                 u32::from_le_bytes(four)
@@ -216,8 +219,8 @@ fn half_of_the_flipped_and_noisy_records_play() {
 fn a_record_survives_reading_and_writing() {
     let mut good = 0;
     for index in 0..RECORDS {
-        let bytes = generate(3, index).bytes;
-        if let Ok(record) = record::read(&bytes, 4000) {
+        let bytes = generate(3, index, BOARD).bytes;
+        if let Ok(record) = record::read(&bytes, BOARD, 4000) {
             assert_eq!(record::write_record(&record).unwrap(), bytes);
             good += 1;
         }
@@ -228,10 +231,11 @@ fn a_record_survives_reading_and_writing() {
 #[test]
 fn a_seed_gives_the_same_record_again() {
     for index in 0..FAMILIES.len() as u64 {
-        assert_eq!(generate(5, index).bytes, generate(5, index).bytes);
+        let bytes = || generate(5, index, BOARD).bytes;
+        assert_eq!(bytes(), bytes());
     }
     let mut names: Vec<_> = (0..FAMILIES.len() as u64)
-        .map(|index| generate(5, index).family)
+        .map(|index| generate(5, index, BOARD).family)
         .collect();
     names.sort_unstable();
     names.dedup();
@@ -243,7 +247,7 @@ fn bench_records_have_their_size_and_no_refusals() {
     for name in ["samples", "mixed", "nested"] {
         for size in [0, 1, 10, 100, 1000, 4000] {
             let bytes = bench_record(name, size).unwrap();
-            let (_, tally) = player::play(&bytes);
+            let (_, tally) = player::play(&bytes, BOARD);
             assert_eq!(tally.events, size as u64);
             assert_eq!(tally.refusals[1..].iter().sum::<u64>(), 0, "{name} {size}");
             assert_eq!(tally.accepted[CLOCK as usize], 0);

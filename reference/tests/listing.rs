@@ -1,7 +1,7 @@
 //! The listed record and its print.
 
 use reference::player::print;
-use reference::record::{listing, write_record};
+use reference::record::{listing, write_record, BOARD, COMPACT};
 
 const PRINT: &str = "\
 sources 4 events 10
@@ -22,21 +22,23 @@ end open 0 level 0 margin 5
 fn the_listing_prints_its_text() {
     let bytes = write_record(&listing()).unwrap();
     assert_eq!(bytes.len(), 88);
-    assert_eq!(print(&bytes), PRINT);
+    for limits in [BOARD, COMPACT] {
+        assert_eq!(print(&bytes, limits), PRINT);
+    }
 }
 
 #[test]
 fn a_bad_record_prints_one_line() {
     let mut bytes = write_record(&listing()).unwrap();
     bytes.push(0);
-    assert_eq!(print(&bytes), "refused 4 at 0\n");
+    assert_eq!(print(&bytes, BOARD), "refused 4 at 0\n");
 }
 
 #[test]
 fn no_events_print_two_lines() {
     let bytes = [0, 0, 0, 0, 2, 0, 0, 0];
     assert_eq!(
-        print(&bytes),
+        print(&bytes, BOARD),
         "sources 2 events 0\nend open 0 level 0 margin 0\n"
     );
 }
@@ -48,5 +50,5 @@ fn a_margin_may_be_negative() {
     bytes.extend(head);
     bytes.extend(15u32.to_le_bytes());
     let text = "sources 255 events 1\n0 4 0 0\nend open 0 level 0 margin -15\n";
-    assert_eq!(print(&bytes), text);
+    assert_eq!(print(&bytes, BOARD), text);
 }

@@ -7,7 +7,7 @@ use reference::event::*;
 use reference::generate::FAMILIES;
 use reference::machine::*;
 use reference::random::Random;
-use reference::record::{self, Record};
+use reference::record::{self, Record, BOARD};
 use std::collections::BTreeMap;
 
 /// The field of a rank, or the rank of a field, over signed numbers.
@@ -201,8 +201,8 @@ fn equal_ranks_written_in_either_order_tie() {
 fn family(rounds: u64) -> Vec<Record> {
     let (_, build) = FAMILIES.iter().find(|found| found.0 == "mirror").unwrap();
     let record = |round| {
-        let bytes = build(&mut Random::for_index(1, round));
-        record::read(&bytes, 4000).unwrap()
+        let bytes = build(&mut Random::for_index(1, round), BOARD);
+        record::read(&bytes, BOARD, 4000).unwrap()
     };
     (0..rounds).map(record).collect()
 }

@@ -5,10 +5,10 @@ mod common;
 use common::*;
 use reference::event::CLOCK;
 use reference::machine::*;
-use reference::record::{self, lay_out, Refusal};
+use reference::record::{self, lay_out, Refusal, BOARD};
 
 fn reading(bytes: &[u8]) -> Option<(u32, usize)> {
-    record::read(bytes, 4000)
+    record::read(bytes, BOARD, 4000)
         .err()
         .map(|Refusal { number, place }| (number, place))
 }
@@ -57,13 +57,13 @@ fn records_1_to_5() {
     assert_eq!(writing(2, &[0], &[], 0), Some((4, 0)));
     let two = lay_out(2, 2, &[0, 0], &[0, 0]);
     assert_eq!(
-        record::read(&two, 1),
+        record::read(&two, BOARD, 1),
         Err(Refusal {
             number: 5,
             place: 0
         })
     );
-    assert!(record::read(&two, 2).is_ok());
+    assert!(record::read(&two, BOARD, 2).is_ok());
     assert_eq!(writing(2, &[0], &[0], 15), Some((5, 0)));
     assert_eq!(writing(2, &[0], &[0], 16), None);
 }

@@ -4,7 +4,7 @@ use reference::compare_text::{sort, SORTS};
 use reference::event::Event;
 use reference::generate;
 use reference::random::Random;
-use reference::record::{self, lay_out, listing, write_record, Record};
+use reference::record::{self, lay_out, listing, write_record, Record, BOARD};
 use reference::text::{canonical, to_record, MOST_BYTES};
 use reference::texts::{dress, make, FAMILIES};
 
@@ -253,8 +253,8 @@ fn a_text_makes_its_record_however_it_is_dressed() {
     let mut random = Random::new(11);
     let mut records = 0;
     for index in 0..4 * generate::FAMILIES.len() as u64 {
-        let bytes = generate::generate(11, index).bytes;
-        if let Ok(record) = record::read(&bytes, 4000) {
+        let bytes = generate::generate(11, index, BOARD).bytes;
+        if let Ok(record) = record::read(&bytes, BOARD, 4000) {
             assert_eq!(to_record(&canonical(&record)), Ok(bytes.clone()));
             assert_eq!(to_record(&dress(&record, &mut random)), Ok(bytes));
             records += 1;

@@ -6,7 +6,7 @@ use common::*;
 use reference::event::*;
 use reference::machine::*;
 use reference::player::print;
-use reference::record::{lay_out, write_record, Record};
+use reference::record::{lay_out, write_record, Record, BOARD};
 use reference::timer::*;
 
 /// What the six CSRs read.
@@ -376,8 +376,8 @@ fn a_record_with_clocks_prints_their_answers() {
     };
     let text = "sources 2 events 4\n0 4 0 0\n1 10 2 0\n2 3 1 0\n3 3 0 12\n\
         end open 0 level 0 margin 0\n";
-    assert_eq!(print(&write_record(&record).unwrap()), text);
+    assert_eq!(print(&write_record(&record).unwrap(), BOARD), text);
     let clock = |address: u32, value| lay_out(1, 2, &[0x000A_0000 | address], &[value]);
-    assert_eq!(print(&clock(1, 0)), "refused 7 at 0\n");
-    assert_eq!(print(&clock(0, 1)), "refused 7 at 0\n");
+    assert_eq!(print(&clock(1, 0), BOARD), "refused 7 at 0\n");
+    assert_eq!(print(&clock(0, 1), BOARD), "refused 7 at 0\n");
 }

@@ -30,12 +30,12 @@ use Rattle.record.specs.Words.{wordsOf, bytesOfWords}
 use Rattle.record.specs.Record.{recordOf}
 use Rattle.record.specs.Questions.{readVerdict, walkFrom}
 use Rattle.digits.specs.Ascii.{ascii}
-use Rattle.playback.specs.Print.{eventLines, printOf}
+use Rattle.playback.specs.Print.{eventLines, printOf, compactPrintOf, printWithin}
 use Rattle.bench_points.specs.Points.{Points, Plays, Holds, after, listing-text, fifteen-up, fifteen-down, fifteen-handlers}
 
 -- To unfold this is to unfold every rule.
 rules : Unit {0}
-unfolding printOf eventLines ascii digitsTo readVerdict walkFrom wordsOf bytesOfWords endOf eachOf stepOf soundStepOf eventOf sampleEvent loadEvent storeEvent csrReadEvent controllerWrite csrWriteEvent takeEvent openEvent chainEvent returnEvent setMaskEvent clockEvent clockOf marginAnswer soundOf handlersSound handlerSound belowOf levelOf powerOnOf shapeOf calls.powerOnOf calls.sourceCount calls.currentRank calls.setCurrent calls.meihapOf calls.captureOf calls.lookOf registers.sampleOf registers.loadOf registers.storeOf csrs.csrReadOf csrs.csrWriteOf sound.soundOf sound.sourcesSound sourceSound isPending isEligible entryOf betterOf winnerTo higherOf differenceOf joinOf wordTo placesTo sourceRegister pageRegister offsetRefusal readOf writtenOf csrAt csrValue csrWritten mirror closedForm timers.timerAt timers.withTimer timers.resetCounters timers.timerSound timers.soundOf timers.nextCount timers.clockOf counters.csrOf counters.csrAt counters.csrValue counters.csrWritten
+unfolding printWithin eventLines ascii digitsTo readVerdict walkFrom wordsOf bytesOfWords endOf eachOf stepOf soundStepOf eventOf sampleEvent loadEvent storeEvent csrReadEvent controllerWrite csrWriteEvent takeEvent openEvent chainEvent returnEvent setMaskEvent clockEvent clockOf marginAnswer soundOf handlersSound handlerSound belowOf levelOf powerOnOf shapeOf calls.powerOnOf calls.sourceCount calls.currentRank calls.setCurrent calls.meihapOf calls.captureOf calls.lookOf registers.sampleOf registers.loadOf registers.storeOf csrs.csrReadOf csrs.csrWriteOf sound.soundOf sound.sourcesSound sourceSound isPending isEligible entryOf betterOf winnerTo higherOf differenceOf joinOf wordTo placesTo sourceRegister pageRegister offsetRefusal readOf writtenOf csrAt csrValue csrWritten mirror closedForm timers.timerAt timers.withTimer timers.resetCounters timers.timerSound timers.soundOf timers.nextCount timers.clockOf counters.csrOf counters.csrAt counters.csrValue counters.csrWritten
 rules = tt
 
 -- The whole print and the long list apart from the table, since what one declaration may compute is limited.
@@ -54,6 +54,10 @@ fifteen-up-held = refl
 fifteen-down-held : Holds (after 16 (fifteen-up ++ fifteen-down)) 0 [] 0
 unfolding rules
 fifteen-down-held = refl
+
+compact-listing : compactPrintOf (recordOf listingSources listingHeads listingValues) ≡ ascii listing-text
+unfolding rules
+compact-listing = refl
 
 pub points : Points
 unfolding rules
@@ -122,4 +126,11 @@ points =
       mirror-ranks = refl;
       mirror-meipl = (refl, refl);
       mirror-csrs = (refl, refl);
+      compact-around = refl;
+      board-around = refl;
+      compact-1 = refl;
+      compact-6 = refl;
+      compact-listing = compact-listing;
+      compact-print-22 = refl;
+      compact-print-23 = refl;
     }

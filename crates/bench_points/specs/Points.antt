@@ -1,6 +1,6 @@
--- Document 01, "Bench points K1 to K10", the ends of the margin, the listing of "The player", a list that nests fifteen handlers, and the timers and the mirror
--- of document 02: one table about the rules. Each point is a list of events played from power-on, each event with what it must answer or be refused with, and what
--- the machine must hold after it.
+-- Document 01, "Bench points K1 to K10", the ends of the margin, the listing of "The player", a list that nests fifteen handlers, and the timers, the mirror and the
+-- compact reader of document 02: one table about the rules. A point is a list of events played from power-on, each event with what it must answer or be refused
+-- with, and what the machine must hold after it; or bytes, and what a reader or a player must answer.
 use Prim.Native.Nat.{ℕ, zero, suc, _+_, _*_, _^_, _≤_}
 use Prim.Native.String.{String}
 use mathlib.Core.Path.{_≡_}
@@ -22,9 +22,12 @@ use Rattle.handlers.specs.Fields.{withCounters}
 use Rattle.handlers.specs.Machines.{soundOf, powerOnOf}
 use Rattle.handlers.specs.Calls.{storeOf, clockOf, stepOf, marginAnswer}
 use Rattle.claims.specs.Play.{endOf, answersOf, refusalsOf}
+use Rattle.record.specs.declared.Verdict.{Verdict}
 use Rattle.record.specs.Record.{recordOf}
+use Rattle.record.specs.Questions.{verdict, noRefusal, boardVerdict, compactVerdict}
+use Rattle.record.specs.Words.{bytesOfWords}
 use Rattle.digits.specs.Ascii.{ascii}
-use Rattle.playback.specs.Print.{endLine, printOf}
+use Rattle.playback.specs.Print.{endLine, printOf, compactPrintOf}
 
 -- A row: an event, "a head and a value", with the answer and the refusal that it must get.
 pub record Row : Type 0 where
@@ -326,6 +329,20 @@ nested-down = clock ∷ mask 0 ∷ clock ∷ return answers 1 ∷ clock answers 
 abbrev pub controlled : ℕ → Machine
 controlled v = withCounters (start 4) (withTimer (start 4 .counters) 1 (withControl resetTimer v))
 
+-- The sizes of a record, n and N, and no event behind them.
+abbrev pub sizes : ℕ → ℕ → List ℕ
+sizes n N = bytesOfWords (n ∷ N ∷ [])
+
+-- What a reader answers to each n and N, with no event behind them.
+abbrev pub sizesColumn : (List ℕ → Verdict) → List (ℕ × ℕ) → List Verdict
+sizesColumn reader [] = []
+sizesColumn reader ((n, N) ∷ rest) = reader (sizes n N) ∷ sizesColumn reader rest
+
+-- N and n around the limits of both readers, and both too large.
+abbrev pub around : List (ℕ × ℕ)
+around =
+    (0, 1) ∷ (0, 2) ∷ (0, 63) ∷ (0, 64) ∷ (0, 255) ∷ (0, 256) ∷ (500, 63) ∷ (501, 63) ∷ (4000, 63) ∷ (4001, 63) ∷ (501, 64) ∷ (5000, 64) ∷ (5000, 256) ∷ []
+
 -- The closed form of the mirror at the fields 0 to n − 1.
 abbrev pub closedColumn : ℕ → ℕ → List ℤ
 closedColumn priord zero = []
@@ -481,3 +498,45 @@ pub record Points : Type 0 where
       ++ csrs-written 15
       ++ csrs-read 15
       ++ (store mpiccfg 1 ∷ csrs-read 0))
+  -- Document 02, No. 3. "22 when the van's reader meets N above 63, after question 2; 23 when it meets n above 500, after question 3; both with place 0." Where
+  -- it takes N and n, or 2 or 3 is answered no, it answers as the big reader does.
+  pub compact-around :
+      sizesColumn compactVerdict around
+      ≡ verdict 2 0
+      ∷ noRefusal
+      ∷ noRefusal
+      ∷ verdict 22 0
+      ∷ verdict 22 0
+      ∷ verdict 2 0
+      ∷ verdict 4 0
+      ∷ verdict 23 0
+      ∷ verdict 23 0
+      ∷ verdict 3 0
+      ∷ verdict 22 0
+      ∷ verdict 22 0
+      ∷ verdict 2 0
+      ∷ []
+  -- "The big player keeps 255 and 4,000."
+  pub board-around :
+      sizesColumn boardVerdict around
+      ≡ verdict 2 0
+      ∷ noRefusal
+      ∷ noRefusal
+      ∷ noRefusal
+      ∷ noRefusal
+      ∷ verdict 2 0
+      ∷ verdict 4 0
+      ∷ verdict 4 0
+      ∷ verdict 4 0
+      ∷ verdict 3 0
+      ∷ verdict 4 0
+      ∷ verdict 3 0
+      ∷ verdict 2 0
+      ∷ []
+  -- Fewer than 8 bytes; and an event of no kind, where the big reader's number and place are given.
+  pub compact-1 : compactVerdict (0 ∷ 0 ∷ 0 ∷ 0 ∷ 64 ∷ 0 ∷ 0 ∷ []) ≡ verdict 1 0
+  pub compact-6 : compactVerdict (recordOf 63 (0x50000 ∷ 0xB0000 ∷ []) (0 ∷ 0 ∷ [])) ≡ verdict 6 1
+  -- "A record that both accept prints the same lines on both."
+  pub compact-listing : compactPrintOf (recordOf listingSources listingHeads listingValues) ≡ ascii listing-text
+  pub compact-print-22 : compactPrintOf (sizes 0 64) ≡ ascii "refused 22 at 0\n"
+  pub compact-print-23 : compactPrintOf (sizes 501 63) ≡ ascii "refused 23 at 0\n"

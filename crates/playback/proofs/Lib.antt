@@ -4,3 +4,4 @@ pub mod Signs
 pub mod Printing
 pub mod Whole
 pub mod Reading
+pub mod Players

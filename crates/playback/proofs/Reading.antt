@@ -10,11 +10,12 @@ use Rattle.buffers.specs.Filled.{filled, HasFirst}
 use borrow.Author.Tests.{eq-eqb, ne-eqb, eqb-true, lt-leb, le-leb}
 use Rattle.event.specs.Event.{shapeOf}
 use Rattle.event.proofs.Laws.{kind-known}
+use Rattle.record.specs.declared.Limits.{Limits}
 use Rattle.record.specs.declared.Verdict.{Verdict}
 use Rattle.record.specs.declared.ReadAnswer.{ReadAnswer}
 use Rattle.record.specs.declared.ReadAnswer.the-variants as reading
-use Rattle.record.specs.Record.{board, mostSources, mostEvents, recordSize, countOf, sourcesOf, headsOf, valuesOf}
-use Rattle.record.specs.Questions.{readVerdict, boardVerdict}
+use Rattle.record.specs.Record.{mostSources, mostEvents, lengthOf, countOf, sourcesOf, headsOf, valuesOf}
+use Rattle.record.specs.Questions.{readVerdict, verdictWithin}
 use Rattle.record.proofs.Questions.{readable}
 use Rattle.record.specs.Answers.{allYes, readNumbers, readAnswer, readHeads, readValues}
 use Rattle.record.proofs.Walk.{heads-length, values-length, walk-clear}
@@ -27,12 +28,12 @@ use Rattle.claims.specs.Play.{endOf}
 use Rattle.claims.proofs.Playing.{end-ready}
 use Rattle.record.proofs.TooLong.{read-cut, long-refused}
 use Rattle.digits.specs.Ascii.{ascii}
-use Rattle.playback.specs.Print.{KnownKinds, printOf, playedLines, refusedLine, roomFor, printedLength, printedInto}
-use Rattle.playback.specs.Size.{printRoom, printSize}
+use Rattle.playback.specs.Print.{KnownKinds, printWithin, playedLines, refusedLine, roomFor, printedLength, printedInto}
+use Rattle.playback.specs.Size.{printRoom}
 
 -- A record that was read, where the reader's verdict is that of arrays with a and b places.
-pub record WasRead (bytes : List ℕ) (a b : ℕ) (heads values : List ℕ) (n s : ℕ) : Type 0 where
-  pub yes : allYes (readVerdict board bytes a b) ≡ true
+pub record WasRead (limits : Limits) (bytes : List ℕ) (a b : ℕ) (heads values : List ℕ) (n s : ℕ) : Type 0 where
+  pub yes : allYes (readVerdict limits bytes a b) ≡ true
   pub count : length (headsOf bytes) ≡ n
   pub few : n ≤ mostEvents
   pub in-a : n ≤ a
@@ -47,23 +48,23 @@ pub record WasRead (bytes : List ℕ) (a b : ℕ) (heads values : List ℕ) (n s
   pub kinds : KnownKinds (headsOf bytes)
 
 -- A record that was refused.
-pub record WasRefused (bytes : List ℕ) (a b number at : ℕ) : Type 0 where
-  pub no : allYes (readVerdict board bytes a b) ≡ false
-  pub refusal : number ≡ readVerdict board bytes a b .refusal
-  pub place : at ≡ readVerdict board bytes a b .place
+pub record WasRefused (limits : Limits) (bytes : List ℕ) (a b number at : ℕ) : Type 0 where
+  pub no : allYes (readVerdict limits bytes a b) ≡ false
+  pub refusal : number ≡ readVerdict limits bytes a b .refusal
+  pub place : at ≡ readVerdict limits bytes a b .place
 
-module _ (bytes heads₀ values₀ : List ℕ) (a b : ℕ) (alike : readVerdict board bytes (length heads₀) (length values₀) ≡ readVerdict board bytes a b) where
+module _ (limits : Limits) (bytes heads₀ values₀ : List ℕ) (a b : ℕ) (alike : readVerdict limits bytes (length heads₀) (length values₀) ≡ readVerdict limits bytes a b) where
   pub was-read : {r : ReadAnswer} {heads values : List ℕ} {n s : ℕ} → length heads ≡ length heads₀ → length values ≡ length values₀
-      → readNumbers r ≡ readAnswer board bytes (length heads₀) (length values₀) → heads ≡ readHeads board bytes heads₀ values₀ → values ≡ readValues board bytes heads₀ values₀
-      → r ≡ reading.Done n s → WasRead bytes a b heads values n s
+      → readNumbers r ≡ readAnswer limits bytes (length heads₀) (length values₀) → heads ≡ readHeads limits bytes heads₀ values₀ → values ≡ readValues limits bytes heads₀ values₀
+      → r ≡ reading.Done n s → WasRead limits bytes a b heads values n s
   was-read {r} {heads} {values} {n} {s} kh kv er eh ev d =
-      let p = read-parts board bytes heads₀ values₀ er eh ev d in
-      let z : readVerdict board bytes a b .refusal ≡ 0 = ap (λ (v : Verdict). v .refusal) (sym alike) ∙ p .yes in
-      let q = readable board bytes a b z in
+      let p = read-parts limits bytes heads₀ values₀ er eh ev d in
+      let z : readVerdict limits bytes a b .refusal ≡ 0 = ap (λ (v : Verdict). v .refusal) (sym alike) ∙ p .yes in
+      let q = readable limits bytes a b z in
       let hl : length (headsOf bytes) ≡ countOf bytes = heads-length bytes (countOf bytes) (q .whole) in
       let same : length (valuesOf bytes) ≡ length (headsOf bytes) = values-length bytes (countOf bytes) (q .whole) ∙ sym hl in
       record {
-        yes = eq-eqb (readVerdict board bytes a b .refusal) 0 z;
+        yes = eq-eqb (readVerdict limits bytes a b .refusal) 0 z;
         count = hl ∙ sym (p .count);
         few = omega (arith, p .count, q .few);
         in-a = omega (arith, p .count, q .headsHold);
@@ -78,85 +79,90 @@ module _ (bytes heads₀ values₀ : List ℕ) (a b : ℕ) (alike : readVerdict 
         kinds = λ j l. kind-known (getD (headsOf bytes) j 0) (getD (valuesOf bytes) j 0) (walk-clear shapeOf (headsOf bytes) (valuesOf bytes) (sym same) (q .events) j l);
       }
 
-  pub was-refused : {r : ReadAnswer} {number at : ℕ} → readNumbers r ≡ readAnswer board bytes (length heads₀) (length values₀) → r ≡ reading.Refused number at
-      → WasRefused bytes a b number at
+  pub was-refused : {r : ReadAnswer} {number at : ℕ} → readNumbers r ≡ readAnswer limits bytes (length heads₀) (length values₀) → r ≡ reading.Refused number at
+      → WasRefused limits bytes a b number at
   was-refused {r} {number} {at} er d =
-      let f = read-not board bytes (length heads₀) (length values₀) er d in
+      let f = read-not limits bytes (length heads₀) (length values₀) er d in
       record {
-        no = ne-eqb (readVerdict board bytes a b .refusal) 0 (λ z. f .0 (ap (λ (v : Verdict). v .refusal) alike ∙ z));
+        no = ne-eqb (readVerdict limits bytes a b .refusal) 0 (λ z. f .0 (ap (λ (v : Verdict). v .refusal) alike ∙ z));
         refusal = f .1 ∙ ap (λ (v : Verdict). v .refusal) alike;
         place = f .2 ∙ ap (λ (v : Verdict). v .place) alike;
       }
 
 -- The print of a record that is played, and of one that is refused.
-pub print-done : (bytes : List ℕ) → allYes (boardVerdict bytes) ≡ true → printOf bytes ≡ playedLines (sourcesOf bytes) (headsOf bytes) (valuesOf bytes)
-unfolding printOf
-print-done bytes e = rw e
+pub print-done : (limits : Limits) (bytes : List ℕ) → allYes (verdictWithin limits bytes) ≡ true → printWithin limits bytes ≡ playedLines (sourcesOf bytes) (headsOf bytes) (valuesOf bytes)
+unfolding printWithin
+print-done limits bytes e = rw e
 
-pub print-refused : {bytes : List ℕ} {number place : ℕ} → WasRefused bytes mostEvents mostEvents number place → refusedLine number place ≡ printOf bytes
-unfolding printOf
-print-refused f = rw (f .no, f .refusal, f .place)
+module _ {limits : Limits} {bytes : List ℕ} where
+  pub print-refused : {number place : ℕ} → WasRefused limits bytes (limits .events) (limits .events) number place → refusedLine number place ≡ printWithin limits bytes
+  unfolding printWithin
+  print-refused f = rw (f .no, f .refusal, f .place)
+
+  module _ {heads values : List ℕ} {n s : ℕ} (f : WasRead limits bytes (limits .events) (limits .events) heads values n s) where
+    pub played-is : playedLines s (take n heads) (take n values) ≡ printWithin limits bytes
+    played-is = rw (f .has-heads, f .has-values, f .sources) (sym (print-done limits bytes (f .yes)))
+
+    -- The room for the print of a record that is read, and of one that is refused.
+    pub room-done : roomFor limits bytes ≡ printRoom n
+    unfolding roomFor
+    room-done = rw (f .yes, f .count)
+
+  pub room-refused : {number place : ℕ} → WasRefused limits bytes (limits .events) (limits .events) number place → roomFor limits bytes ≡ printRoom 0
+  unfolding roomFor
+  room-refused f = rw (f .no)
 
 -- A text that was put at the start is the print, where it is equal to it.
 pub printed-as : (out s t d : List ℕ) (r : ℕ) → s ≡ t → (r ≡ length s) × (d ≡ filled s out) → (r ≡ length t) × (d ≡ filled t out)
 printed-as out s t d r e p = subst (λ (x : List ℕ). (r ≡ length x) × (d ≡ filled x out)) e p
 
-pub played-is : {bytes heads values : List ℕ} {n s : ℕ} → WasRead bytes mostEvents mostEvents heads values n s → playedLines s (take n heads) (take n values) ≡ printOf bytes
-played-is {bytes} f = rw (f .has-heads, f .has-values, f .sources) (sym (print-done bytes (f .yes)))
-
--- The room for the print of a record that is read, and of one that is refused.
-pub room-done : {bytes heads values : List ℕ} {n s : ℕ} → WasRead bytes mostEvents mostEvents heads values n s → roomFor bytes ≡ printRoom n
+-- The room that a record may need at most.
+room-most : (limits : Limits) (bytes : List ℕ) → roomFor limits bytes ≤ printRoom (limits .events)
 unfolding roomFor
-room-done f = rw (f .yes, f .count)
-
-pub room-refused : {bytes : List ℕ} {number place : ℕ} → WasRefused bytes mostEvents mostEvents number place → roomFor bytes ≡ printRoom 0
-unfolding roomFor
-room-refused f = rw (f .no)
-
--- Into a buffer of any length.
-pub no-room : (bytes out : List ℕ) {room : ℕ} → roomFor bytes ≡ room → length out < room → (0 ≡ printedLength bytes (length out)) × (out ≡ printedInto bytes out)
-no-room bytes out e h = rw (e, lt-leb _ (length out) h) (refl, refl)
-
-pub with-room : (bytes out : List ℕ) {room : ℕ} {d : List ℕ} {r : ℕ} → roomFor bytes ≡ room → room ≤ length out → (r ≡ length (printOf bytes)) × (d ≡ filled (printOf bytes) out)
-    → (r ≡ printedLength bytes (length out)) × (d ≡ printedInto bytes out)
-with-room bytes out e h p = rw (e, le-leb _ (length out) h) p
-
--- Into a buffer with room for any record.
-pub room-most : (bytes : List ℕ) → roomFor bytes ≤ printSize
-unfolding roomFor
-room-most bytes = go (allYes (boardVerdict bytes)) refl
+room-most limits bytes = go (allYes (verdictWithin limits bytes)) refl
   where
-    go : (t : Bool) → allYes (boardVerdict bytes) ≡ t → printRoom (cond t (length (headsOf bytes)) 0) ≤ printSize
+    go : (t : Bool) → allYes (verdictWithin limits bytes) ≡ t → printRoom (cond t (length (headsOf bytes)) 0) ≤ printRoom (limits .events)
     go true e =
-        let ok = readable board bytes mostEvents mostEvents (eqb-true _ _ e) in
-        omega (arith, ok .few, heads-length bytes (countOf bytes) (ok .whole))
+        let ok = readable limits bytes (limits .events) (limits .events) (eqb-true _ _ e) in
+        omega (arith, ok .short, heads-length bytes (countOf bytes) (ok .whole))
     go false e = omega arith
 
-pub room-enough : (bytes out : List ℕ) {d : List ℕ} {r : ℕ} → length out ≡ printSize → (r ≡ printedLength bytes (length out)) × (d ≡ printedInto bytes out)
-    → (r ≡ length (printOf bytes)) × (d ≡ filled (printOf bytes) out)
-room-enough bytes out l p = let h : roomFor bytes ≤ length out = omega (arith, l, room-most bytes) in rw (le-leb (roomFor bytes) (length out) h) at p
+-- Into a buffer of any length.
+module _ (limits : Limits) (bytes out : List ℕ) where
+  pub no-room : {room : ℕ} → roomFor limits bytes ≡ room → length out < room → (0 ≡ printedLength limits bytes (length out)) × (out ≡ printedInto limits bytes out)
+  no-room e h = rw (e, lt-leb _ (length out) h) (refl, refl)
 
--- The print stands at the start of the buffer that it fills.
-pub print-first : (bytes out : List ℕ) {d : List ℕ} {r : ℕ} → r ≡ length (printOf bytes) → d ≡ filled (printOf bytes) out → HasFirst r d
-print-first bytes out {d} {r} e f =
-    let rest : List ℕ = drop (length (printOf bytes)) out in
-    let within : r ≤ length d = rw (f, length-append (printOf bytes) rest) (omega (arith, e)) in
-    (within, sym (length-take-le r d within))
+  module _ {d : List ℕ} {r : ℕ} where
+    pub with-room : {room : ℕ} → roomFor limits bytes ≡ room → room ≤ length out → (r ≡ length (printWithin limits bytes)) × (d ≡ filled (printWithin limits bytes) out)
+        → (r ≡ printedLength limits bytes (length out)) × (d ≡ printedInto limits bytes out)
+    with-room e h p = rw (e, le-leb _ (length out) h) p
 
--- Of an input that is longer than any record, as much as is longer too prints the same: what the player reads is enough.
-pub print-cut : (bytes : List ℕ) (m : ℕ) → recordSize < m → m ≤ length bytes → printOf (take m bytes) ≡ printOf bytes
-unfolding printOf
-print-cut bytes m h l =
-    let same : boardVerdict (take m bytes) ≡ boardVerdict bytes = read-cut board bytes m mostEvents mostEvents h l in
-    let no : boardVerdict bytes .refusal ≡ 0 → ⊥ = long-refused board bytes mostEvents mostEvents (omega arith) in
-    rw (same, ne-eqb (boardVerdict bytes .refusal) 0 no)
+    -- Into a buffer with room for any record that the reader takes.
+    pub room-enough : length out ≡ printRoom (limits .events) → (r ≡ printedLength limits bytes (length out)) × (d ≡ printedInto limits bytes out)
+        → (r ≡ length (printWithin limits bytes)) × (d ≡ filled (printWithin limits bytes) out)
+    room-enough l p = let h : roomFor limits bytes ≤ length out = omega (arith, l, room-most limits bytes) in rw (le-leb (roomFor limits bytes) (length out) h) at p
+
+    -- The print stands at the start of the buffer that it fills.
+    pub print-first : r ≡ length (printWithin limits bytes) → d ≡ filled (printWithin limits bytes) out → HasFirst r d
+    print-first e f =
+        let rest : List ℕ = drop (length (printWithin limits bytes)) out in
+        let within : r ≤ length d = rw (f, length-append (printWithin limits bytes) rest) (omega (arith, e)) in
+        (within, sym (length-take-le r d within))
+
+-- Of an input that is longer than any record that the reader takes, as much as is longer too prints the same: what a player reads is enough.
+pub print-cut : (limits : Limits) (bytes : List ℕ) (m : ℕ) → lengthOf (limits .events) < m → m ≤ length bytes → printWithin limits (take m bytes) ≡ printWithin limits bytes
+unfolding printWithin
+print-cut limits bytes m h l =
+    let same : verdictWithin limits (take m bytes) ≡ verdictWithin limits bytes = read-cut limits bytes m (limits .events) (limits .events) h l in
+    let no : verdictWithin limits bytes .refusal ≡ 0 → ⊥ = long-refused limits bytes (limits .events) (limits .events) (omega arith) in
+    rw (same, ne-eqb (verdictWithin limits bytes .refusal) 0 no)
 
 -- Every print has a line, so an answer of 0 comes from a buffer that is too short.
-pub print-not-empty : (bytes : List ℕ) → 0 < length (printOf bytes)
-unfolding ascii printOf
-print-not-empty bytes = go (allYes (boardVerdict bytes))
+pub print-not-empty : (limits : Limits) (bytes : List ℕ) → 0 < length (printWithin limits bytes)
+unfolding ascii printWithin
+print-not-empty limits bytes = go (allYes (verdictWithin limits bytes))
   where
-    go : (t : Bool) → 0 < length (cond t (playedLines (sourcesOf bytes) (headsOf bytes) (valuesOf bytes)) (refusedLine (boardVerdict bytes .refusal) (boardVerdict bytes .place)))
+    go : (t : Bool) → 0 < length (cond t (playedLines (sourcesOf bytes) (headsOf bytes) (valuesOf bytes)) (refusedLine (verdictWithin limits bytes .refusal) (verdictWithin limits bytes .place)))
     go true = simp (length-append) (omega arith)
     go false = simp (length-append) (omega arith)
 

@@ -2,3 +2,4 @@
 pub mod Text
 pub mod Size
 pub mod Print
+pub mod Players

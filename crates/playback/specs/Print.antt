@@ -1,4 +1,4 @@
--- Document 01, "The player": the print of a record, whole.
+-- Document 01, "The player": the print of a record, whole, by a player that takes every record or, document 02, No. 3, short ones.
 use Prim.Native.Nat.{ℕ, suc, _<_}
 use mathlib.Core.Bool.{Bool, cond}
 use mathlib.Core.List.{List, [], _∷_, _++_}
@@ -9,8 +9,10 @@ use lib.Signed.{ltZ}
 use Rattle.buffers.specs.Filled.{filled}
 use Rattle.digits.specs.Digits.{decimal}
 use Rattle.event.specs.Event.{kindOf, kinds}
-use Rattle.record.specs.Record.{sourcesOf, headsOf, valuesOf}
-use Rattle.record.specs.Questions.{boardVerdict}
+use Rattle.record.specs.declared.Limits.{Limits}
+use Rattle.record.specs.declared.Verdict.{Verdict}
+use Rattle.record.specs.Record.{board, compact, sourcesOf, headsOf, valuesOf}
+use Rattle.record.specs.Questions.{verdictWithin}
 use Rattle.record.specs.Answers.{allYes}
 use Rattle.pic.specs.Calls.{currentRank}
 use Rattle.handlers.specs.declared.Machine.{Machine}
@@ -59,25 +61,34 @@ playedLines sources heads values =
     ++ eventLines 0 heads (answersOf (powerOnOf sources .machine) heads values) (refusalsOf (powerOnOf sources .machine) heads values)
     ++ endLine (endOf (powerOnOf sources .machine) heads values)
 
--- The whole print.
-unfoldable pub printOf : List ℕ → List ℕ
-printOf bytes =
-    cond
-    (allYes (boardVerdict bytes))
-    (playedLines (sourcesOf bytes) (headsOf bytes) (valuesOf bytes))
-    (refusedLine (boardVerdict bytes .refusal) (boardVerdict bytes .place))
+-- The whole print, by the reader's verdict.
+abbrev pub printBy : Verdict → List ℕ → List ℕ
+printBy v bytes =
+    cond (allYes v) (playedLines (sourcesOf bytes) (headsOf bytes) (valuesOf bytes)) (refusedLine (v .refusal) (v .place))
+
+-- One rule for the players: each prints by the verdict of its own reader.
+unfoldable pub printWithin : Limits → List ℕ → List ℕ
+printWithin limits bytes = printBy (verdictWithin limits bytes) bytes
+
+-- The player, which takes every record,
+abbrev pub printOf : List ℕ → List ℕ
+printOf = printWithin board
+
+-- and the compact player, which takes short ones.
+abbrev pub compactPrintOf : List ℕ → List ℕ
+compactPrintOf = printWithin compact
 
 -- The heads of an accepted record, by question 6: each is of a kind that there is.
 abbrev pub KnownKinds : List ℕ → Type 0
 KnownKinds heads = (j : ℕ) → j < length heads → kindOf (getD heads j 0) < length kinds
 
 -- The room that a record's print may need: n lines of events where the reader accepts it with n events, none where it is refused.
-unfoldable pub roomFor : List ℕ → ℕ
-roomFor bytes = printRoom (cond (allYes (boardVerdict bytes)) (length (headsOf bytes)) 0)
+unfoldable pub roomFor : Limits → List ℕ → ℕ
+roomFor limits bytes = printRoom (cond (allYes (verdictWithin limits bytes)) (length (headsOf bytes)) 0)
 
 -- A buffer with less room stays as it was, and the answer is 0.
-abbrev pub printedLength : List ℕ → ℕ → ℕ
-printedLength bytes space = cond (leb (roomFor bytes) space) (length (printOf bytes)) 0
+abbrev pub printedLength : Limits → List ℕ → ℕ → ℕ
+printedLength limits bytes space = cond (leb (roomFor limits bytes) space) (length (printWithin limits bytes)) 0
 
-abbrev pub printedInto : List ℕ → List ℕ → List ℕ
-printedInto bytes buffer = cond (leb (roomFor bytes) (length buffer)) (filled (printOf bytes) buffer) buffer
+abbrev pub printedInto : Limits → List ℕ → List ℕ → List ℕ
+printedInto limits bytes buffer = cond (leb (roomFor limits bytes) (length buffer)) (filled (printWithin limits bytes) buffer) buffer

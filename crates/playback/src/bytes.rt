@@ -5,15 +5,19 @@ ghost use Prim.Native.Nat.{_+_, _*_, _≤_};
 ghost use lib.ListN.{length};
 ghost use lib.Seq.{sets};
 ghost use Rattle.buffers.specs.Filled.{filled, HasFirst};
-ghost use Rattle.playback.specs.Print.{KnownKinds, eventLines, endLine, playedLines, printOf, printedLength, printedInto};
+ghost use Rattle.playback.specs.Print.{KnownKinds, eventLines, endLine, playedLines, printOf, compactPrintOf, printedLength, printedInto};
 ghost use Rattle.playback.specs.Size.{eventLineSize, lastLineSize, printRoom};
-ghost use Rattle.record.specs.Record.{mostEvents};
+ghost use Rattle.record.specs.Record.{board, mostEvents};
 use crate::lines::is_below;
 use crate::lines::put_event;
 use crate::lines::put_last;
 use crate::lines::put_line;
 use crate::lines::size;
 use handlers::Machine;
+use record::BOARD;
+use record::COMPACT;
+use record::COMPACT_EVENTS;
+use record::Limits;
 use record::MOST_EVENTS;
 use record::ReadAnswer;
 
@@ -27,6 +31,11 @@ const LAST_LINE_SIZE: usize = 86;
 
 // Enough for the print of any record.
 pub const PRINT_SIZE: usize = FIRST_LINE_SIZE + MOST_EVENTS * EVENT_LINE_SIZE + LAST_LINE_SIZE;
+
+// Enough for the print of any record that the compact player takes.
+pub const COMPACT_PRINT_SIZE: usize = FIRST_LINE_SIZE
+    + COMPACT_EVENTS * EVENT_LINE_SIZE
+    + LAST_LINE_SIZE;
 
 // Puts the lines of the events from a place on, and answers the place after them.
 fn put_events(out: &mut [u8], at: usize, heads: &[u32], answers: &[u32], refusals: &[u8]) -> usize
@@ -66,16 +75,21 @@ fn put_end(out: &mut [u8], at: usize, m: Machine) -> usize
     put_last(out, at, m.depth as u64, level.0 as u64, below, far)
 }
 
-// Plays the events from power-on, and puts their print at the start.
-fn print_played(out: &mut [u8], sources: u32, heads: &[u32], values: &[u32]) -> usize
+// Plays the events from power-on, with places for what they answer and are refused with, and puts their print at the start.
+fn print_played(
+    out: &mut [u8],
+    sources: u32,
+    heads: &[u32],
+    values: &[u32],
+    answers: &mut [u32],
+    refusals: &mut [u8],
+) -> usize
     requires { ⌜ (length (now heads) ≤ mostEvents) × (length (now values) ≡ length (now heads)) × KnownKinds (now heads)
-        × (printRoom (length (now heads)) ≤ length (now out)) ⌝ }
+        × (printRoom (length (now heads)) ≤ length (now out)) × (length (now heads) ≤ length (now answers)) × (length (now heads) ≤ length (now refusals)) ⌝ }
     ensures { λ r. ⌜ r ≡ length (playedLines sources (now (heads .entry)) (now (values .entry))) ⌝ }
     ensures { λ _. ⌜ now (out .exit) ≡ filled (playedLines sources (now (heads .entry)) (now (values .entry))) (now (out .entry)) ⌝ }
 {
-    let mut answers: [u32; MOST_EVENTS] = [0; MOST_EVENTS];
-    let mut refusals: [u8; MOST_EVENTS] = [0; MOST_EVENTS];
-    let played = claims::play(sources, heads, values, &mut answers, &mut refusals);
+    let played = claims::play(sources, heads, values, answers, refusals);
     let a = put_line(
         out,
         0,
@@ -84,7 +98,7 @@ fn print_played(out: &mut [u8], sources: u32, heads: &[u32], values: &[u32]) -> 
         b" events ",
         heads.len() as u64,
     );
-    let b = put_events(out, a, heads, &answers, &refusals);
+    let b = put_events(out, a, heads, answers, refusals);
     let m = played.machine;
     put_end(out, b, m)
 }
@@ -97,21 +111,36 @@ fn print_room(events: usize) -> usize
     FIRST_LINE_SIZE + events * EVENT_LINE_SIZE + LAST_LINE_SIZE
 }
 
-// Prints a record into a buffer of any length: the print fills its first bytes, and the answer is how many. With less room than the record's print may
-// need it stays as it was, nothing is played, and the answer is 0.
-pub fn print_into(record: &[u8], out: &mut [u8]) -> usize
-    ensures { λ r. ⌜ r ≡ printedLength (now («record» .entry)) (length (now (out .entry))) ⌝ }
-    ensures { λ _. ⌜ now (out .exit) ≡ printedInto (now («record» .entry)) (now (out .entry)) ⌝ }
+// Prints a record by a reader with these limits, whose arrays have a place for each event that it takes, into a buffer of any length: the print fills its
+// first bytes, and the answer is how many. With less room than the record's print may need it stays as it was, nothing is played, and the answer is 0.
+fn print_within(
+    limits: Limits,
+    record: &[u8],
+    heads: &mut [u32],
+    values: &mut [u32],
+    answers: &mut [u32],
+    refusals: &mut [u8],
+    out: &mut [u8],
+) -> usize
+    requires { ⌜ (length (now heads) ≡ limits .events) × (length (now values) ≡ limits .events)
+        × (length (now answers) ≡ limits .events) × (length (now refusals) ≡ limits .events) ⌝ }
+    ensures { λ r. ⌜ r ≡ printedLength limits (now («record» .entry)) (length (now (out .entry))) ⌝ }
+    ensures { λ _. ⌜ now (out .exit) ≡ printedInto limits (now («record» .entry)) (now (out .entry)) ⌝ }
 {
-    let mut heads: [u32; MOST_EVENTS] = [0; MOST_EVENTS];
-    let mut values: [u32; MOST_EVENTS] = [0; MOST_EVENTS];
-    let got = record::read(record, &mut heads, &mut values);
+    let got = record::read_within(limits, record, heads, values);
     match got {
         ReadAnswer::Done { events, sources } => {
             if out.len() < print_room(events) {
                 return 0;
             }
-            print_played(out, sources, &heads[..events], &values[..events])
+            print_played(
+                out,
+                sources,
+                &heads[..events],
+                &values[..events],
+                answers,
+                refusals,
+            )
         }
         ReadAnswer::Refused { refusal, place } => {
             if out.len() < print_room(0) {
@@ -122,11 +151,52 @@ pub fn print_into(record: &[u8], out: &mut [u8]) -> usize
     }
 }
 
-// Prints a record into a buffer with room for the print of any record.
+// Prints any record into a buffer of any length, as print_within does.
+pub fn print_into(record: &[u8], out: &mut [u8]) -> usize
+    ensures { λ r. ⌜ r ≡ printedLength board (now («record» .entry)) (length (now (out .entry))) ⌝ }
+    ensures { λ _. ⌜ now (out .exit) ≡ printedInto board (now («record» .entry)) (now (out .entry)) ⌝ }
+{
+    let mut heads: [u32; MOST_EVENTS] = [0; MOST_EVENTS];
+    let mut values: [u32; MOST_EVENTS] = [0; MOST_EVENTS];
+    let mut answers: [u32; MOST_EVENTS] = [0; MOST_EVENTS];
+    let mut refusals: [u8; MOST_EVENTS] = [0; MOST_EVENTS];
+    print_within(
+        BOARD,
+        record,
+        &mut heads,
+        &mut values,
+        &mut answers,
+        &mut refusals,
+        out,
+    )
+}
+
+// Prints any record into a buffer with room for the print of any record.
 pub fn print(record: &[u8], out: &mut [u8; PRINT_SIZE]) -> usize
     ensures { λ r. ⌜ r ≡ length (printOf (now («record» .entry))) ⌝ }
     ensures { λ _. ⌜ now (out .exit) ≡ filled (printOf (now («record» .entry))) (now (out .entry)) ⌝ }
     ensures { λ r. ⌜ HasFirst r (now (out .exit)) ⌝ }
 {
     print_into(record, out)
+}
+
+// Prints a short record on little memory, into a buffer with room for the print of any short record: the compact player.
+pub fn print_compact(record: &[u8], out: &mut [u8; COMPACT_PRINT_SIZE]) -> usize
+    ensures { λ r. ⌜ r ≡ length (compactPrintOf (now («record» .entry))) ⌝ }
+    ensures { λ _. ⌜ now (out .exit) ≡ filled (compactPrintOf (now («record» .entry))) (now (out .entry)) ⌝ }
+    ensures { λ r. ⌜ HasFirst r (now (out .exit)) ⌝ }
+{
+    let mut heads: [u32; COMPACT_EVENTS] = [0; COMPACT_EVENTS];
+    let mut values: [u32; COMPACT_EVENTS] = [0; COMPACT_EVENTS];
+    let mut answers: [u32; COMPACT_EVENTS] = [0; COMPACT_EVENTS];
+    let mut refusals: [u8; COMPACT_EVENTS] = [0; COMPACT_EVENTS];
+    print_within(
+        COMPACT,
+        record,
+        &mut heads,
+        &mut values,
+        &mut answers,
+        &mut refusals,
+        out,
+    )
 }

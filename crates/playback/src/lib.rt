@@ -3,6 +3,8 @@
 mod bytes;
 mod lines;
 
+pub use bytes::COMPACT_PRINT_SIZE;
 pub use bytes::PRINT_SIZE;
 pub use bytes::print;
+pub use bytes::print_compact;
 pub use bytes::print_into;

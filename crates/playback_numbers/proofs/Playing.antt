@@ -15,6 +15,7 @@ use Rattle.handlers.specs.Machines.{powerOnOf}
 use Rattle.claims.specs.declared.Played.{Played}
 use Rattle.claims.specs.Play.{answersOf, refusalsOf, eventsPlayed, playedOf}
 use Rattle.claims.proofs.Playing.{played-all}
+use Rattle.record.specs.Record.{board}
 use Rattle.playback.proofs.Reading.{WasRead, WasRefused}
 use Rattle.playback_numbers.specs.declared.Numbers.{Numbers}
 use Rattle.playback_numbers.specs.Numbers.{acceptedWith, refusedWith, numbersOf, answersLeft, refusalsLeft}
@@ -29,13 +30,13 @@ abbrev pub Left : List ℕ → List ℕ → List ℕ → Numbers → List ℕ �
 Left bytes answers₀ refusals₀ r answers refusals =
     (r ≡ numbersOf bytes (length answers₀) (length refusals₀)) × ((answers ≡ answersLeft bytes answers₀ refusals₀) × (refusals ≡ refusalsLeft bytes answers₀ refusals₀))
 
-pub left-refused : (bytes answers refusals : List ℕ) {number at : ℕ} {r : Numbers} → WasRefused bytes (length answers) (length refusals) number at
+pub left-refused : (bytes answers refusals : List ℕ) {number at : ℕ} {r : Numbers} → WasRefused board bytes (length answers) (length refusals) number at
     → r ≡ refusedWith number at → Left bytes answers refusals r answers refusals
 unfolding numbersOf
 left-refused bytes answers refusals f e = rw (e, f .no, f .refusal, f .place) (refl, (refl, refl))
 
 pub left-played : (bytes answers₀ refusals₀ heads values : List ℕ) {n s : ℕ} {p : Played} {answers refusals : List ℕ} {r : Numbers}
-    → WasRead bytes (length answers₀) (length refusals₀) heads values n s
+    → WasRead board bytes (length answers₀) (length refusals₀) heads values n s
     → p ≡ playedOf s (eventsPlayed (length (take n heads)) (length (take n values)) (length answers₀) (length refusals₀)) (take n heads) (take n values)
     → answers ≡ filled (answersOf (powerOnOf s .machine) (take (p .events) (take n heads)) (take (p .events) (take n values))) answers₀
     → refusals ≡ filled (refusalsOf (powerOnOf s .machine) (take (p .events) (take n heads)) (take (p .events) (take n values))) refusals₀

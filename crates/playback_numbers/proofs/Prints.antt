@@ -38,7 +38,7 @@ numbers-no bytes a b e = rw e
 
 -- Arrays that hold the record's n events get the player's verdict.
 players : (bytes : List ℕ) (a b : ℕ) → (countOf bytes ≤ mostEvents → (countOf bytes ≤ a) × (countOf bytes ≤ b)) → verdictOf bytes a b ≡ boardVerdict bytes
-players bytes a b h = same-verdict bytes a b mostEvents mostEvents same
+players bytes a b h = same-verdict board bytes a b mostEvents mostEvents same
   where
     same : countOf bytes ≤ mostEvents → arraysHold (countOf bytes) a b ≡ arraysHold (countOf bytes) mostEvents mostEvents
     same few = rw (le-leb _ _ (h few .0), le-leb _ _ (h few .1), le-leb (countOf bytes) mostEvents few)
@@ -67,7 +67,7 @@ accepted-prints bytes answers refusals z = by-case (allYes (verdictOf bytes (len
         let xs : List ℕ = answersOf (startOf bytes) (headsOf bytes) (valuesOf bytes) in
         let rs : List ℕ = refusalsOf (startOf bytes) (headsOf bytes) (valuesOf bytes) in
         let first = lines-first 0 (headsOf bytes) xs rs (drop (length xs) answers) (drop (length rs) refusals) (each-many (λ (o : Outcome). o .answer) (startOf bytes) (headsOf bytes) (valuesOf bytes) vl) (each-many (λ (o : Outcome). o .refusal) (startOf bytes) (headsOf bytes) (valuesOf bytes) vl) in
-        print-done bytes (ap allYes (sym same) ∙ e) ∙ rw (numbers-yes bytes (length answers) (length refusals) e, e, first)
+        print-done board bytes (ap allYes (sym same) ∙ e) ∙ rw (numbers-yes bytes (length answers) (length refusals) e, e, first)
 
 -- Refused, and the arrays have a place for each event of any record: the print is the refusal.
 pub refused-prints : (bytes : List ℕ) (a b : ℕ) → mostEvents ≤ a → mostEvents ≤ b → (numbersOf bytes a b .refusal ≡ 0 → ⊥)

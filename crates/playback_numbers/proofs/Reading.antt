@@ -21,10 +21,10 @@ pub serves-part : (part n : ℕ) (l : List ℕ) → length l ≡ mostEvents → 
 serves-part part n l e s = let inside : part ≤ length l = omega (arith, e, s .0) in rw (length-take-le part l inside) s
 
 -- So it is for a record that was refused.
-pub refused-few : {bytes : List ℕ} {a b number at : ℕ} → WasRefused bytes a b number at → at ≤ mostEvents
-refused-few {bytes} {a} {b} f = omega (arith, f .place, place-few bytes a b (eqb-false _ _ (f .no)))
+pub refused-few : {bytes : List ℕ} {a b number at : ℕ} → WasRefused board bytes a b number at → at ≤ mostEvents
+refused-few {bytes} {a} {b} f = omega (arith, f .place, place-few board bytes a b (eqb-false _ _ (f .no)))
 
 -- Parts that serve for the lent arrays get their verdict.
 pub served : (bytes heads values : List ℕ) (a b : ℕ) → ServesFor (length heads) a → ServesFor (length values) b
     → readVerdict board bytes (length heads) (length values) ≡ verdictOf bytes a b
-served bytes heads values a b sh sv = same-verdict bytes (length heads) (length values) a b (same-hold (countOf bytes) (length heads) (length values) a b sh sv)
+served bytes heads values a b sh sv = same-verdict board bytes (length heads) (length values) a b (same-hold (countOf bytes) (length heads) (length values) a b sh sv)

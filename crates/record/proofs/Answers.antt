@@ -45,16 +45,16 @@ no-back (suc q) at number place x xs e =
     (suc-ne-zero q, ap (λ (a : Answer). a .refusal) e′, ap (λ (a : Answer). a .place) e′)
 
 -- What the answer of a writing tells.
-module _ (limits : Limits) (sources : ℕ) (heads values : List ℕ) (space : ℕ) {r : WriteAnswer}
-    (e : writeNumbers r ≡ writeAnswer limits sources heads values space) where
-  pub write-done : {l : ℕ} → r ≡ writing.Done l → (writeVerdict limits sources heads values space .refusal ≡ 0) × (l ≡ lengthOf (length heads))
+module _ (sources : ℕ) (heads values : List ℕ) (space : ℕ) {r : WriteAnswer}
+    (e : writeNumbers r ≡ writeAnswer sources heads values space) where
+  pub write-done : {l : ℕ} → r ≡ writing.Done l → (writeVerdict sources heads values space .refusal ≡ 0) × (l ≡ lengthOf (length heads))
   write-done d =
-      let f = yes-back _ (writeVerdict limits sources heads values space .place) _ _ (ap writeNumbers (sym d) ∙ e) in
+      let f = yes-back _ (writeVerdict sources heads values space .place) _ _ (ap writeNumbers (sym d) ∙ e) in
       (f .0, cc)
 
   pub write-not : {number place : ℕ} → r ≡ writing.Refused number place
-      → (writeVerdict limits sources heads values space .refusal ≡ 0 → ⊥)
-      × (number ≡ writeVerdict limits sources heads values space .refusal) × (place ≡ writeVerdict limits sources heads values space .place)
+      → (writeVerdict sources heads values space .refusal ≡ 0 → ⊥)
+      × (number ≡ writeVerdict sources heads values space .refusal) × (place ≡ writeVerdict sources heads values space .place)
   write-not d = no-back _ _ _ _ _ _ (ap writeNumbers (sym d) ∙ e)
 
 -- What the answer of a reading tells.

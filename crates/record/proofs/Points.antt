@@ -6,7 +6,7 @@ use lib.ListN.{length}
 use Rattle.event.specs.Event.{shapeOf}
 use Rattle.event.specs.Listing.{listingSources, listingHeads, listingValues}
 use Rattle.record.specs.Words.{wordsOf, bytesOfWords}
-use Rattle.record.specs.Record.{board, recordOf, countOf, sourcesOf, headsOf, valuesOf}
+use Rattle.record.specs.Record.{board, compact, recordOf, countOf, sourcesOf, headsOf, valuesOf}
 use Rattle.record.specs.Questions.{walkFrom, readVerdict, writeVerdict}
 use Rattle.record.specs.Answers.{doneWith, refusedAt, readAnswer, writeAnswer}
 
@@ -61,7 +61,7 @@ unfolding wordsOf
 listing-values = refl
 
 -- Written into 88 bytes.
-pub listing-written : writeAnswer board listingSources listingHeads listingValues 88 ≡ doneWith (88 ∷ [])
+pub listing-written : writeAnswer listingSources listingHeads listingValues 88 ≡ doneWith (88 ∷ [])
 unfolding writeVerdict walkFrom shapeOf
 listing-written = refl
 
@@ -99,3 +99,12 @@ refused-6 = refl
 pub refused-7 : readAnswer board (recordOf 4 (0x50001 ∷ 0xb0000 ∷ []) (0 ∷ 0 ∷ [])) 9 9 ≡ refusedAt 7 0
 unfolding readVerdict wordsOf bytesOfWords walkFrom shapeOf
 refused-7 = refl
+
+-- The compact reader: N 64 with n too large too, and n 501 with a length that is wrong too.
+pub refused-22 : readAnswer compact (255 ∷ 255 ∷ 255 ∷ 255 ∷ 64 ∷ 0 ∷ 0 ∷ 0 ∷ []) 9 9 ≡ refusedAt 22 0
+unfolding readVerdict wordsOf walkFrom shapeOf
+refused-22 = refl
+
+pub refused-23 : readAnswer compact (245 ∷ 1 ∷ 0 ∷ 0 ∷ 63 ∷ 0 ∷ 0 ∷ 0 ∷ []) 9 9 ≡ refusedAt 23 0
+unfolding readVerdict wordsOf walkFrom shapeOf
+refused-23 = refl

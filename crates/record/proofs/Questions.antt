@@ -10,9 +10,53 @@ use lib.ListN.{length}
 use Rattle.event.specs.Event.{shapeOf}
 use Rattle.record.specs.declared.Limits.{Limits}
 use Rattle.record.specs.declared.Verdict.{Verdict}
-use Rattle.record.specs.Record.{countOf, sourcesOf, headsOf, valuesOf, wordsFrom, lengthOf, board, mostEvents}
-use Rattle.record.specs.Questions.{verdict, question, sourcesInRange, countInRange, arraysHold, walk, readVerdict, writeVerdict, boardVerdict}
+use Rattle.record.specs.Record.{countOf, sourcesOf, headsOf, valuesOf, wordsFrom, lengthOf, mostSources, mostEvents}
+use Rattle.record.specs.Questions.{verdict, noRefusal, question, sourcesInRange, sourcesTaken, countInRange, countTaken, arraysHold, walk, readVerdict, verdictWithin, writeVerdict}
 use Rattle.record.proofs.Walk.{walk-first}
+
+-- Questions 2 and 22 of N, 3 and 23 of n, and then others.
+abbrev pub sizesThen : Limits → ℕ → ℕ → Verdict → Verdict
+sizesThen limits s n next =
+    question 2 (sourcesInRange s) (question 22 (sourcesTaken limits s) (question 3 (countInRange n) (question 23 (countTaken limits n) next)))
+
+-- The number of each no of these, given the answers before it as the code has them.
+module _ (limits : Limits) (s n : ℕ) where
+  pub sizes-no-2 : not (sourcesInRange s) ≡ true → 2 ≡ sizesThen limits s n noRefusal .refusal
+  sizes-no-2 h = rw (not-true (sourcesInRange s) h)
+
+  module _ (q2 : not (sourcesInRange s) ≡ false) where
+    pub sizes-no-22 : limits .sources < s → 22 ≡ sizesThen limits s n noRefusal .refusal
+    sizes-no-22 h = rw (not-false (sourcesInRange s) q2, lt-leb _ _ h)
+
+    module _ (q22 : s ≤ limits .sources) where
+      pub sizes-no-3 : mostEvents < n → 3 ≡ sizesThen limits s n noRefusal .refusal
+      sizes-no-3 h = rw (not-false (sourcesInRange s) q2, le-leb _ _ q22, lt-leb _ _ h)
+
+      module _ (q3 : n ≤ mostEvents) where
+        pub sizes-no-23 : limits .events < n → 23 ≡ sizesThen limits s n noRefusal .refusal
+        sizes-no-23 h = rw (not-false (sourcesInRange s) q2, le-leb _ _ q22, le-leb _ _ q3, lt-leb _ _ h)
+
+        pub sizes-none : n ≤ limits .events → 0 ≡ sizesThen limits s n noRefusal .refusal
+        sizes-none h = rw (not-false (sourcesInRange s) q2, le-leb _ _ q22, le-leb _ _ q3, le-leb _ _ h)
+
+-- Four questions and then others: the first no decides, with place 0; where there is none, the others.
+module _ (i j k l : ℕ) (next : Verdict) where
+  abbrev fourThen : Bool → Bool → Bool → Bool → Verdict → Verdict
+  fourThen a b c d v = question (suc i) a (question (suc j) b (question (suc k) c (question (suc l) d v)))
+
+  four-no : (a b c d : Bool) → (fourThen a b c d noRefusal .refusal ≡ 0 → ⊥) → verdict (fourThen a b c d noRefusal .refusal) 0 ≡ fourThen a b c d next
+  four-no false b c d h = refl
+  four-no true false c d h = refl
+  four-no true true false d h = refl
+  four-no true true true false h = refl
+  four-no true true true true h = absurd (h refl)
+
+  four-yes : (a b c d : Bool) → fourThen a b c d noRefusal .refusal ≡ 0 → next ≡ fourThen a b c d next
+  four-yes false b c d h = absurd (omega arith)
+  four-yes true false c d h = absurd (omega arith)
+  four-yes true true false d h = absurd (omega arith)
+  four-yes true true true false h = absurd (omega arith)
+  four-yes true true true true h = refl
 
 -- Reading: the verdict of each no, given the answers before it as the code has them.
 module _ (limits : Limits) (bytes : List ℕ) (hp vp : ℕ) where
@@ -20,29 +64,31 @@ module _ (limits : Limits) (bytes : List ℕ) (hp vp : ℕ) where
   unfolding readVerdict
   read-no-1 h = rw (lt-leb _ _ h)
 
-  module _ (q1 : 8 ≤ length bytes) {s : ℕ} (es : s ≡ sourcesOf bytes) where
-    pub read-no-2 : not (sourcesInRange limits s) ≡ true → verdict 2 0 ≡ readVerdict limits bytes hp vp
+  module _ (q1 : 8 ≤ length bytes) {n s number : ℕ} (en : n ≡ countOf bytes) (es : s ≡ sourcesOf bytes) (e : number ≡ sizesThen limits s n noRefusal .refusal) where
+    pub read-no-sizes : (number ≡ 0 → ⊥) → verdict number 0 ≡ readVerdict limits bytes hp vp
     unfolding readVerdict
-    read-no-2 h = rw (le-leb _ _ q1, ← es, not-true (sourcesInRange limits s) h)
+    read-no-sizes h =
+        rw (le-leb _ _ q1, ← en, ← es, e)
+        (four-no 1 21 2 22 _ (sourcesInRange s) (sourcesTaken limits s) (countInRange n) (countTaken limits n) (λ z. h (e ∙ z)))
 
-    module _ (q2 : not (sourcesInRange limits s) ≡ false) {n : ℕ} (en : n ≡ countOf bytes) where
-      pub read-no-3 : limits .events < n → verdict 3 0 ≡ readVerdict limits bytes hp vp
+    module _ (yes : number ≡ 0) where
+      others : (next : Verdict) → next ≡ sizesThen limits s n next
+      others next = four-yes 1 21 2 22 next (sourcesInRange s) (sourcesTaken limits s) (countInRange n) (countTaken limits n) (sym e ∙ yes)
+
+      pub read-no-4 : (length bytes ≡ lengthOf n → ⊥) → verdict 4 0 ≡ readVerdict limits bytes hp vp
       unfolding readVerdict
-      read-no-3 h = rw (le-leb _ _ q1, ← es, not-false (sourcesInRange limits s) q2, ← en, lt-leb _ _ h)
+      read-no-4 h = rw (le-leb _ _ q1, ← en, ← es, ne-eqb _ _ h) (others (verdict 4 0))
 
-      module _ (q3 : n ≤ limits .events) where
-        pub read-no-4 : (length bytes ≡ lengthOf n → ⊥) → verdict 4 0 ≡ readVerdict limits bytes hp vp
+      module _ (q4 : length bytes ≡ lengthOf n) where
+        pub read-no-5 : not (arraysHold n hp vp) ≡ true → verdict 5 0 ≡ readVerdict limits bytes hp vp
         unfolding readVerdict
-        read-no-4 h = rw (le-leb _ _ q1, ← es, not-false (sourcesInRange limits s) q2, ← en, le-leb _ _ q3, ne-eqb _ _ h)
+        read-no-5 h = rw (le-leb _ _ q1, ← en, ← es, eq-eqb _ _ q4, not-true (arraysHold n hp vp) h) (others (verdict 5 0))
 
-        module _ (q4 : length bytes ≡ lengthOf n) where
-          pub read-no-5 : not (arraysHold n hp vp) ≡ true → verdict 5 0 ≡ readVerdict limits bytes hp vp
-          unfolding readVerdict
-          read-no-5 h = rw (le-leb _ _ q1, ← es, not-false (sourcesInRange limits s) q2, ← en, le-leb _ _ q3, eq-eqb _ _ q4, not-true (arraysHold n hp vp) h)
-
-          pub read-walk : not (arraysHold n hp vp) ≡ false → walk shapeOf (wordsFrom bytes 2 n) (wordsFrom bytes (2 + n) n) ≡ readVerdict limits bytes hp vp
-          unfolding readVerdict
-          read-walk h = rw (le-leb _ _ q1, ← es, not-false (sourcesInRange limits s) q2, ← en, le-leb _ _ q3, eq-eqb _ _ q4, not-false (arraysHold n hp vp) h)
+        pub read-walk : not (arraysHold n hp vp) ≡ false → walk shapeOf (wordsFrom bytes 2 n) (wordsFrom bytes (2 + n) n) ≡ readVerdict limits bytes hp vp
+        unfolding readVerdict
+        read-walk h =
+            rw (le-leb _ _ q1, ← en, ← es, eq-eqb _ _ q4, not-false (arraysHold n hp vp) h)
+            (others (walk shapeOf (wordsFrom bytes 2 n) (wordsFrom bytes (2 + n) n)))
 
 and-true : (a b : Bool) → a && b ≡ true → (a ≡ true) × (b ≡ true)
 and-true true true h = (refl, refl)
@@ -54,12 +100,23 @@ question-yes : (k : ℕ) (a : Bool) (v : Verdict) → question (suc k) a v .refu
 question-yes k true v h = (refl, h)
 question-yes k false v h = absurd (omega arith)
 
+pub sizes-few : (limits : Limits) (s n : ℕ) → sizesThen limits s n noRefusal .refusal ≡ 0 → n ≤ mostEvents
+sizes-few limits s n h =
+    let q23 : Verdict = question 23 (countTaken limits n) noRefusal in
+    let q3 : Verdict = question 3 (countInRange n) q23 in
+    let q22 : Verdict = question 22 (sourcesTaken limits s) q3 in
+    let yes-2 = question-yes 1 (sourcesInRange s) q22 h in
+    let yes-22 = question-yes 21 (sourcesTaken limits s) q3 (yes-2 .1) in
+    leb-true n mostEvents (question-yes 2 (countInRange n) q23 (yes-22 .1) .0)
+
 -- The answers of an accepted reading.
 pub record Readable (limits : Limits) (bytes : List ℕ) (headPlaces valuePlaces : ℕ) : Type 0 where
   pub sizes : 8 ≤ length bytes
   pub two : 2 ≤ sourcesOf bytes
-  pub most : sourcesOf bytes ≤ limits .sources
-  pub few : countOf bytes ≤ limits .events
+  pub most : sourcesOf bytes ≤ mostSources
+  pub taken : sourcesOf bytes ≤ limits .sources
+  pub few : countOf bytes ≤ mostEvents
+  pub short : countOf bytes ≤ limits .events
   pub whole : length bytes ≡ lengthOf (countOf bytes)
   pub headsHold : countOf bytes ≤ headPlaces
   pub valuesHold : countOf bytes ≤ valuePlaces
@@ -70,8 +127,10 @@ unfolding readVerdict
 readable limits bytes hp vp h =
     let q1 = question-yes 0 _ _ h in
     let q2 = question-yes 1 _ _ (q1 .1) in
-    let q3 = question-yes 2 _ _ (q2 .1) in
-    let q4 = question-yes 3 _ _ (q3 .1) in
+    let q22 = question-yes 21 _ _ (q2 .1) in
+    let q3 = question-yes 2 _ _ (q22 .1) in
+    let q23 = question-yes 22 _ _ (q3 .1) in
+    let q4 = question-yes 3 _ _ (q23 .1) in
     let q5 = question-yes 4 _ _ (q4 .1) in
     let range = and-true _ _ (q2 .0) in
     let hold = and-true _ _ (q5 .0) in
@@ -79,7 +138,9 @@ readable limits bytes hp vp h =
       sizes = leb-true _ _ (q1 .0);
       two = leb-true _ _ (range .0);
       most = leb-true _ _ (range .1);
+      taken = leb-true _ _ (q22 .0);
       few = leb-true _ _ (q3 .0);
+      short = leb-true _ _ (q23 .0);
       whole = eqb-true _ _ (q4 .0);
       headsHold = leb-true _ _ (hold .0);
       valuesHold = leb-true _ _ (hold .1);
@@ -87,18 +148,18 @@ readable limits bytes hp vp h =
     }
 
 -- The answers of an accepted writing.
-pub record Writable (limits : Limits) (sources : ℕ) (heads values : List ℕ) (space : ℕ) : Type 0 where
+pub record Writable (sources : ℕ) (heads values : List ℕ) (space : ℕ) : Type 0 where
   pub two : 2 ≤ sources
-  pub most : sources ≤ limits .sources
-  pub few : length heads ≤ limits .events
+  pub most : sources ≤ mostSources
+  pub few : length heads ≤ mostEvents
   pub same : length heads ≡ length values
   pub holds : lengthOf (length heads) ≤ space
   pub events : walk shapeOf heads values .refusal ≡ 0
 
-pub writable : (limits : Limits) (sources : ℕ) (heads values : List ℕ) (space : ℕ) → writeVerdict limits sources heads values space .refusal ≡ 0
-    → Writable limits sources heads values space
+pub writable : (sources : ℕ) (heads values : List ℕ) (space : ℕ) → writeVerdict sources heads values space .refusal ≡ 0
+    → Writable sources heads values space
 unfolding writeVerdict
-writable limits sources heads values space h =
+writable sources heads values space h =
     let q2 = question-yes 1 _ _ h in
     let q3 = question-yes 2 _ _ (q2 .1) in
     let q4 = question-yes 3 _ _ (q3 .1) in
@@ -122,7 +183,7 @@ later n k false next h f six = absurd (omega arith)
 walk-place : (heads values : List ℕ) → length heads ≡ length values → 6 ≤ walk shapeOf heads values .refusal → walk shapeOf heads values .place < length heads
 walk-place heads values same six = walk-first shapeOf heads values same (λ z. omega arith) .inside
 
-module _ (limits : Limits) (sources : ℕ) (heads values : List ℕ) (space : ℕ) where
+module _ (sources : ℕ) (heads values : List ℕ) (space : ℕ) where
   abbrev from-5 : Verdict
   from-5 = question 5 (leb (lengthOf (length heads)) space) (walk shapeOf heads values)
 
@@ -130,16 +191,16 @@ module _ (limits : Limits) (sources : ℕ) (heads values : List ℕ) (space : �
   from-4 = question 4 (eqb (length heads) (length values)) from-5
 
   abbrev from-3 : Verdict
-  from-3 = question 3 (countInRange limits (length heads)) from-4
+  from-3 = question 3 (countInRange (length heads)) from-4
 
-  pub write-place : 6 ≤ writeVerdict limits sources heads values space .refusal → writeVerdict limits sources heads values space .place < length heads
+  pub write-place : 6 ≤ writeVerdict sources heads values space .refusal → writeVerdict sources heads values space .place < length heads
   unfolding writeVerdict
   write-place =
-      later (length heads) 2 (sourcesInRange limits sources) from-3 (lit< tt) (λ two.
-      later (length heads) 3 (countInRange limits (length heads)) from-4 (lit< tt) (λ three.
+      later (length heads) 2 (sourcesInRange sources) from-3 (lit< tt) (λ two.
+      later (length heads) 3 (countInRange (length heads)) from-4 (lit< tt) (λ three.
       later (length heads) 4 (eqb (length heads) (length values)) from-5 (lit< tt) (λ four.
       later (length heads) 5 (leb (lengthOf (length heads)) space) (walk shapeOf heads values) (lit< tt) (λ five. walk-place heads values (eqb-true _ _ four)))))
 
--- Arrays that have a place for each event of any record.
-pub board-verdict : (bytes : List ℕ) {a b : ℕ} → a ≡ mostEvents → b ≡ mostEvents → readVerdict board bytes a b ≡ boardVerdict bytes
-board-verdict bytes {a} {b} ea eb = ap (λ (x : ℕ). readVerdict board bytes x b) ea ∙ ap (readVerdict board bytes mostEvents) eb
+-- Arrays that have a place for each event that the reader takes.
+pub own-arrays : (limits : Limits) (bytes : List ℕ) {a b : ℕ} → a ≡ limits .events → b ≡ limits .events → readVerdict limits bytes a b ≡ verdictWithin limits bytes
+own-arrays limits bytes {a} {b} ea eb = ap (λ (x : ℕ). readVerdict limits bytes x b) ea ∙ ap (readVerdict limits bytes (limits .events)) eb

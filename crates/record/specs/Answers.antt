@@ -63,11 +63,11 @@ abbrev pub readValues : Limits → List ℕ → List ℕ → List ℕ → List �
 readValues limits bytes heads values = stored (readVerdict limits bytes (length heads) (length values)) (valuesOf bytes) values
 
 -- The writer answers the length,
-abbrev pub writeAnswer : Limits → ℕ → List ℕ → List ℕ → ℕ → Answer
-writeAnswer limits sources heads values space =
-    answerBy (writeVerdict limits sources heads values space) (lengthOf (length heads) ∷ [])
+abbrev pub writeAnswer : ℕ → List ℕ → List ℕ → ℕ → Answer
+writeAnswer sources heads values space =
+    answerBy (writeVerdict sources heads values space) (lengthOf (length heads) ∷ [])
 
 -- and does the reverse.
-abbrev pub writtenBytes : Limits → ℕ → List ℕ → List ℕ → List ℕ → List ℕ
-writtenBytes limits sources heads values bytes =
-    stored (writeVerdict limits sources heads values (length bytes)) (recordOf sources heads values) bytes
+abbrev pub writtenBytes : ℕ → List ℕ → List ℕ → List ℕ → List ℕ
+writtenBytes sources heads values bytes =
+    stored (writeVerdict sources heads values (length bytes)) (recordOf sources heads values) bytes

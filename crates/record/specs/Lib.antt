@@ -3,3 +3,4 @@ pub mod Words
 pub mod Record
 pub mod Questions
 pub mod Answers
+pub mod Readers

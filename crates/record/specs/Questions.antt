@@ -1,4 +1,4 @@
--- Document 01, "Questions, first no decides": 1 to 7, reading and writing.
+-- Document 01, "Questions, first no decides": 1 to 7, reading and writing; document 02, No. 3: 22 and 23, reading.
 use Prim.Native.Nat.{ℕ, suc}
 use mathlib.Core.Bool.{Bool, _&&_, cond}
 use mathlib.Core.List.{List, [], _∷_}
@@ -7,7 +7,7 @@ use lib.Dec.{leb, eqb}
 use Rattle.event.specs.Event.{shapeOf}
 use Rattle.record.specs.declared.Limits.{Limits}
 use Rattle.record.specs.declared.Verdict.{Verdict}
-use Rattle.record.specs.Record.{countOf, sourcesOf, headsOf, valuesOf, lengthOf, board, mostEvents}
+use Rattle.record.specs.Record.{countOf, sourcesOf, headsOf, valuesOf, lengthOf, board, compact, mostSources, mostEvents}
 
 -- The number of the question that was answered no, and the place.
 abbrev pub verdict : ℕ → ℕ → Verdict
@@ -17,7 +17,7 @@ verdict number at = record { refusal = number; place = at }
 abbrev pub noRefusal : Verdict
 noRefusal = verdict 0 0
 
--- First no decides: on yes the questions after this one are asked. For 1 to 5 the place is 0.
+-- First no decides: on yes the questions after this one are asked. For 1 to 5 the place is 0, and for 22 and 23 too.
 abbrev pub question : ℕ → Bool → Verdict → Verdict
 question number answer next = cond answer next (verdict number 0)
 
@@ -26,12 +26,20 @@ abbrev pub holdsSizes : List ℕ → Bool
 holdsSizes bytes = leb 8 (length bytes)
 
 -- 2. Is N in 2..255?
-abbrev pub sourcesInRange : Limits → ℕ → Bool
-sourcesInRange limits sources = leb 2 sources && leb sources (limits .sources)
+abbrev pub sourcesInRange : ℕ → Bool
+sourcesInRange sources = leb 2 sources && leb sources mostSources
+
+-- 22. Is N at most 63? With the limits of another reader: is it at most what that reader takes?
+abbrev pub sourcesTaken : Limits → ℕ → Bool
+sourcesTaken limits sources = leb sources (limits .sources)
 
 -- 3. Is n at most 4,000?
-abbrev pub countInRange : Limits → ℕ → Bool
-countInRange limits n = leb n (limits .events)
+abbrev pub countInRange : ℕ → Bool
+countInRange n = leb n mostEvents
+
+-- 23. Is n at most 500? With the limits of another reader: is it at most what that reader takes?
+abbrev pub countTaken : Limits → ℕ → Bool
+countTaken limits n = leb n (limits .events)
 
 -- 5. Does the destination hold it all (reading: n places in each array)?
 abbrev pub arraysHold : ℕ → ℕ → ℕ → Bool
@@ -49,25 +57,33 @@ walkFrom check i (head ∷ heads) (value ∷ values) =
 abbrev pub walk : (ℕ → ℕ → ℕ) → List ℕ → List ℕ → Verdict
 walk check = walkFrom check 0
 
--- Questions 1 to 7, reading.
+-- Questions 1 to 7, reading: 22 is asked after question 2, and 23 after question 3. With the limits of the big reader both are always answered yes.
 unfoldable pub readVerdict : Limits → List ℕ → ℕ → ℕ → Verdict
 readVerdict limits bytes headPlaces valuePlaces =
     question 1 (holdsSizes bytes)
-    (question 2 (sourcesInRange limits (sourcesOf bytes))
-    (question 3 (countInRange limits (countOf bytes))
+    (question 2 (sourcesInRange (sourcesOf bytes))
+    (question 22 (sourcesTaken limits (sourcesOf bytes))
+    (question 3 (countInRange (countOf bytes))
+    (question 23 (countTaken limits (countOf bytes))
     (question 4 (eqb (length bytes) (lengthOf (countOf bytes)))
     (question 5 (arraysHold (countOf bytes) headPlaces valuePlaces)
-    (walk shapeOf (headsOf bytes) (valuesOf bytes))))))
+    (walk shapeOf (headsOf bytes) (valuesOf bytes))))))))
 
--- The same of arrays that have a place for each event of any record.
+-- The same of arrays that have a place for each event that the reader takes.
+abbrev pub verdictWithin : Limits → List ℕ → Verdict
+verdictWithin limits bytes = readVerdict limits bytes (limits .events) (limits .events)
+
 abbrev pub boardVerdict : List ℕ → Verdict
-boardVerdict bytes = readVerdict board bytes mostEvents mostEvents
+boardVerdict = verdictWithin board
+
+abbrev pub compactVerdict : List ℕ → Verdict
+compactVerdict = verdictWithin compact
 
 -- Questions 2 to 7, writing: 4 is whether heads and values are equally many (n is the heads).
-unfoldable pub writeVerdict : Limits → ℕ → List ℕ → List ℕ → ℕ → Verdict
-writeVerdict limits sources heads values space =
-    question 2 (sourcesInRange limits sources)
-    (question 3 (countInRange limits (length heads))
+unfoldable pub writeVerdict : ℕ → List ℕ → List ℕ → ℕ → Verdict
+writeVerdict sources heads values space =
+    question 2 (sourcesInRange sources)
+    (question 3 (countInRange (length heads))
     (question 4 (eqb (length heads) (length values))
     (question 5 (leb (lengthOf (length heads)) space)
     (walk shapeOf heads values))))

@@ -1,4 +1,4 @@
--- Document 01, "The record": its bytes, its limits and its length.
+-- Document 01, "The record": its bytes, its limits and its length; document 02, No. 3: the limits of a reader.
 use Prim.Native.Nat.{ℕ, _+_, _*_}
 use mathlib.Core.List.{List, _∷_, _++_}
 use lib.ListN.{length, getD, take, drop}
@@ -13,17 +13,30 @@ mostSources = 255
 abbrev pub mostEvents : ℕ
 mostEvents = 4000
 
--- The limits of every record.
+-- What a reader takes at most. "The big player keeps 255 and 4,000": it takes every record.
 abbrev pub board : Limits
 board = record { sources = mostSources; events = mostEvents }
+
+-- The compact reader takes short records: "N up to 63 and n up to 500".
+abbrev pub compactSources : ℕ
+compactSources = 63
+
+abbrev pub compactEvents : ℕ
+compactEvents = 500
+
+abbrev pub compact : Limits
+compact = record { sources = compactSources; events = compactEvents }
 
 -- The length of a record of n events: 8 + 8 × n.
 abbrev pub lengthOf : ℕ → ℕ
 lengthOf n = 8 + 8 * n
 
--- The longest record has 32,008 bytes.
+-- The longest record has 32,008 bytes; the longest that the compact reader takes has 4,008.
 abbrev pub recordSize : ℕ
 recordSize = lengthOf mostEvents
+
+abbrev pub compactSize : ℕ
+compactSize = lengthOf compactEvents
 
 -- Sizes, then two arrays, all 32-bit little-endian: event count n, N, n heads, n values.
 abbrev pub recordOf : ℕ → List ℕ → List ℕ → List ℕ

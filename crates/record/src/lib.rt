@@ -6,8 +6,8 @@ ghost use lib.ListN.{length, getD};
 ghost use Rattle.buffers.specs.Filled.{filled};
 ghost use Rattle.event.specs.Event.{shapeOf};
 ghost use Rattle.record.specs.Words.{wordOf, wordsOf};
-ghost use Rattle.record.specs.Record.{board, wordsFrom, lengthOf};
-ghost use Rattle.record.specs.Questions.{walk, readVerdict};
+ghost use Rattle.record.specs.Record.{board, compact, wordsFrom, lengthOf};
+ghost use Rattle.record.specs.Questions.{noRefusal, question, sourcesInRange, sourcesTaken, countInRange, countTaken, walk, readVerdict};
 ghost use Rattle.record.specs.Answers.{readNumbers, readAnswer, readHeads, readValues};
 
 // The greatest N.
@@ -19,16 +19,29 @@ pub const MOST_EVENTS: usize = 4000;
 // The bytes of the longest record.
 pub const RECORD_SIZE: usize = 8 + 8 * MOST_EVENTS;
 
-// What a record may hold at most: N, and events.
+// The greatest N, the most events and the bytes of the longest record that the compact reader takes.
+pub const COMPACT_SOURCES: u32 = 63;
+
+pub const COMPACT_EVENTS: usize = 500;
+
+pub const COMPACT_SIZE: usize = 8 + 8 * COMPACT_EVENTS;
+
+// What a reader takes at most: N, and events.
 pub struct Limits {
     pub sources: u32,
     pub events: u32,
 }
 
-// The limits of every record.
+// The limits of the big reader: it takes every record.
 pub const BOARD: Limits = Limits {
     sources: MOST_SOURCES,
     events: MOST_EVENTS as u32,
+};
+
+// The limits of the compact reader: it takes short records.
+pub const COMPACT: Limits = Limits {
+    sources: COMPACT_SOURCES,
+    events: COMPACT_EVENTS as u32,
 };
 
 // The question that was answered no and the place; 0 and 0 where none was.
@@ -102,6 +115,26 @@ fn walk_bytes(bytes: &[u8], n: usize) -> Verdict
     verdict
 }
 
+// Questions 2, 22, 3 and 23 of N and n: the number of the first that is answered no, or 0.
+fn ask_sizes(limits: Limits, sources: u32, count: u32) -> u8
+    ensures { λ r. ⌜ r ≡ (question 2 (sourcesInRange sources) (question 22 (sourcesTaken limits sources)
+        (question 3 (countInRange count) (question 23 (countTaken limits count) noRefusal)))) .refusal ⌝ }
+{
+    if !((2 <= sources) & (sources <= MOST_SOURCES)) {
+        return 2;
+    }
+    if limits.sources < sources {
+        return 22;
+    }
+    if (MOST_EVENTS as u32) < count {
+        return 3;
+    }
+    if limits.events < count {
+        return 23;
+    }
+    0
+}
+
 // Questions 1 to 7, reading.
 fn ask_reading(limits: Limits, bytes: &[u8], head_places: usize, value_places: usize) -> Verdict
     ensures { λ r. ⌜ r ≡ readVerdict limits (now (bytes .entry)) «head_places» «value_places» ⌝ }
@@ -112,19 +145,10 @@ fn ask_reading(limits: Limits, bytes: &[u8], head_places: usize, value_places: u
             place: 0,
         };
     }
-    let sources = word(bytes, 1);
-    if !((2 <= sources) & (sources <= limits.sources)) {
-        return Verdict {
-            refusal: 2,
-            place: 0,
-        };
-    }
     let count = word(bytes, 0);
-    if limits.events < count {
-        return Verdict {
-            refusal: 3,
-            place: 0,
-        };
+    let refusal = ask_sizes(limits, word(bytes, 1), count);
+    if refusal != 0 {
+        return Verdict { refusal, place: 0 };
     }
     let n = count as usize;
     if bytes.len() != 8 + 8 * n {
@@ -142,8 +166,13 @@ fn ask_reading(limits: Limits, bytes: &[u8], head_places: usize, value_places: u
     walk_bytes(bytes, n)
 }
 
-// Reads a record within limits.
-fn read_within(limits: Limits, bytes: &[u8], heads: &mut [u32], values: &mut [u32]) -> ReadAnswer
+// Reads a record within the limits of a reader: accepted, heads and values fill the first places of the arrays; refused, both stay as they were.
+pub fn read_within(
+    limits: Limits,
+    bytes: &[u8],
+    heads: &mut [u32],
+    values: &mut [u32],
+) -> ReadAnswer
     ensures { λ r. ⌜ readNumbers r ≡ readAnswer limits (now (bytes .entry)) (length (now (heads .entry))) (length (now (values .entry))) ⌝ }
     ensures { λ _. ⌜ now (heads .exit) ≡ readHeads limits (now (bytes .entry)) (now (heads .entry)) (now (values .entry)) ⌝ }
     ensures { λ _. ⌜ now (values .exit) ≡ readValues limits (now (bytes .entry)) (now (heads .entry)) (now (values .entry)) ⌝ }
@@ -164,11 +193,20 @@ fn read_within(limits: Limits, bytes: &[u8], heads: &mut [u32], values: &mut [u3
     }
 }
 
-// Reads a record: accepted, heads and values fill the first places of the arrays; refused, both stay as they were.
+// Reads any record, as read_within does.
 pub fn read(bytes: &[u8], heads: &mut [u32], values: &mut [u32]) -> ReadAnswer
     ensures { λ r. ⌜ readNumbers r ≡ readAnswer board (now (bytes .entry)) (length (now (heads .entry))) (length (now (values .entry))) ⌝ }
     ensures { λ _. ⌜ now (heads .exit) ≡ readHeads board (now (bytes .entry)) (now (heads .entry)) (now (values .entry)) ⌝ }
     ensures { λ _. ⌜ now (values .exit) ≡ readValues board (now (bytes .entry)) (now (heads .entry)) (now (values .entry)) ⌝ }
 {
     read_within(BOARD, bytes, heads, values)
+}
+
+// Reads a short record, as read_within does: the compact reader.
+pub fn read_compact(bytes: &[u8], heads: &mut [u32], values: &mut [u32]) -> ReadAnswer
+    ensures { λ r. ⌜ readNumbers r ≡ readAnswer compact (now (bytes .entry)) (length (now (heads .entry))) (length (now (values .entry))) ⌝ }
+    ensures { λ _. ⌜ now (heads .exit) ≡ readHeads compact (now (bytes .entry)) (now (heads .entry)) (now (values .entry)) ⌝ }
+    ensures { λ _. ⌜ now (values .exit) ≡ readValues compact (now (bytes .entry)) (now (heads .entry)) (now (values .entry)) ⌝ }
+{
+    read_within(COMPACT, bytes, heads, values)
 }

@@ -4,16 +4,16 @@ use Prim.Native.Nat.{ℕ, zero, suc, _+_, _%_, _^_, _≤_, _<_}
 use native.Mathlib.Omega.{arith}
 use mathlib.Core.List.{List, [], _∷_, _++_}
 use borrow.Author.Tests.{le-leb, eq-eqb}
-use lib.Dec.{leb}
+use lib.Dec.{leb, lit<}
 use lib.ListN.{length, getD, drop, length-append, length-drop, take-append-drop}
 use lib.Seq.{take-at, drop-at, take-all, take-length, drop-drop}
 use Rattle.event.specs.Event.{shapeOf}
 use Rattle.record.specs.declared.Limits.{Limits}
 use Rattle.record.specs.Words.{wordsOf}
-use Rattle.record.specs.Record.{recordOf, countOf, sourcesOf, headsOf, valuesOf, lengthOf}
+use Rattle.record.specs.Record.{mostEvents, recordOf, countOf, sourcesOf, headsOf, valuesOf, lengthOf}
 use Rattle.record.specs.Questions.{question, noRefusal, arraysHold, walk, readVerdict, writeVerdict}
-use Rattle.record.specs.Answers.{readAnswer, readHeads, readValues, writeAnswer, writtenBytes}
-use Rattle.record_round_trip.specs.RoundTrip.{ReadsBack, WritesBack}
+use Rattle.record.specs.Answers.{writeAnswer, writtenBytes}
+use Rattle.record_round_trip.specs.RoundTrip.{ReadsBackWithin, WritesBack}
 use Rattle.record.proofs.Words.{Below, length-bytes, length-words, words-of-bytes, bytes-of-words}
 use Rattle.record.proofs.Walk.{walk-clear, walk-yes, heads-length, equally-many}
 use Rattle.record.proofs.Questions.{Readable, readable, Writable, writable}
@@ -25,6 +25,10 @@ below-cons b x xs hx h (suc i) = h i
 below-append : (b : ℕ) (xs ys : List ℕ) → Below b xs → Below b ys → Below b (xs ++ ys)
 below-append b [] ys hx hy = hy
 below-append b (x ∷ xs) ys hx hy = below-cons b x (xs ++ ys) (hx 0) (below-append b xs ys (λ i. hx (suc i)) hy)
+
+-- N and n of a record have 32 bits.
+pub word-sized : {n : ℕ} → n ≤ mostEvents → n < 2 ^ 32
+word-sized {n} h = let most : mostEvents < 2 ^ 32 = lit< tt in omega (arith, h, most)
 
 -- Written: the words of a record of numbers of 32 bits.
 module _ (sources : ℕ) (heads values : List ℕ) (same : length heads ≡ length values)
@@ -56,10 +60,10 @@ module _ (sources : ℕ) (heads values : List ℕ) (same : length heads ≡ leng
   length-written = omega (arith, length-bytes (length heads ∷ sources ∷ heads ++ values), length-append heads values)
 
   -- For everything the writer accepts, reading what it wrote asks only for room.
-  pub reads-written : (limits : Limits) (space headPlaces valuePlaces : ℕ) → Writable limits sources heads values space
+  pub reads-written : (limits : Limits) (space headPlaces valuePlaces : ℕ) → Writable sources heads values space → sources ≤ limits .sources → length heads ≤ limits .events
       → readVerdict limits written headPlaces valuePlaces ≡ question 5 (arraysHold (length heads) headPlaces valuePlaces) noRefusal
   unfolding readVerdict
-  reads-written limits space hp vp w =
+  reads-written limits space hp vp w taken short =
       let all : walk shapeOf heads values ≡ noRefusal = walk-yes shapeOf 0 heads values same (walk-clear shapeOf heads values same (w .events)) in
       let eight : 8 ≤ lengthOf (length heads) = omega arith in
       rw (
@@ -72,7 +76,9 @@ module _ (sources : ℕ) (heads values : List ℕ) (same : length heads ≡ leng
         le-leb _ _ eight,
         le-leb _ _ (w .two),
         le-leb _ _ (w .most),
+        le-leb _ _ taken,
         le-leb _ _ (w .few),
+        le-leb _ _ short,
         eq-eqb (lengthOf (length heads)) _ refl,
       )
 
@@ -108,26 +114,22 @@ module _ (limits : Limits) (bytes : List ℕ) (headPlaces valuePlaces : ℕ) (by
       let whole : length bytes % 4 ≡ 0 = omega arith in
       rw (heads-count, split) (bytes-of-words bytes byte whole)
 
-  pub writes-read : (space : ℕ) → writeVerdict limits (sourcesOf bytes) (headsOf bytes) (valuesOf bytes) space ≡ question 5 (leb (length bytes) space) noRefusal
+  pub writes-read : (space : ℕ) → writeVerdict (sourcesOf bytes) (headsOf bytes) (valuesOf bytes) space ≡ question 5 (leb (length bytes) space) noRefusal
   unfolding writeVerdict
   writes-read space =
       let same : length (headsOf bytes) ≡ length (valuesOf bytes) = equally-many bytes (countOf bytes) (r .whole) in
       let all : walk shapeOf (headsOf bytes) (valuesOf bytes) ≡ noRefusal = walk-yes shapeOf 0 _ _ same (walk-clear shapeOf _ _ same (r .events)) in
       rw (all, eq-eqb _ _ same, heads-count, ← r .whole, le-leb _ _ (r .two), le-leb _ _ (r .most), le-leb _ _ (r .few))
 
--- The round trip: for everything the writer accepts, reading what it wrote returns n, N, heads and values.
-pub reads-back : (limits : Limits) → limits .events < 2 ^ 32 → limits .sources < 2 ^ 32
-    → (sources : ℕ) (heads values : List ℕ) → Below (2 ^ 32) heads → Below (2 ^ 32) values → (space : ℕ) (headsBack valuesBack : List ℕ)
-    → ReadsBack limits sources heads values space headsBack valuesBack
-    (readAnswer limits (recordOf sources heads values) (length headsBack) (length valuesBack))
-    (readHeads limits (recordOf sources heads values) headsBack valuesBack)
-    (readValues limits (recordOf sources heads values) headsBack valuesBack)
-reads-back limits events most sources heads values hh hv space headsBack valuesBack z lh lv =
-    let w = writable limits sources heads values space z in
-    let hn : length heads < 2 ^ 32 = omega arith in
-    let hs : sources < 2 ^ 32 = omega arith in
+-- The round trip: for everything the writer accepts, a reader that takes N and n returns n, N, heads and values of what it wrote.
+pub reads-back : (limits : Limits) (sources : ℕ) (heads values : List ℕ) → Below (2 ^ 32) heads → Below (2 ^ 32) values → (space : ℕ) (headsBack valuesBack : List ℕ)
+    → ReadsBackWithin limits sources heads values space headsBack valuesBack
+reads-back limits sources heads values hh hv space headsBack valuesBack taken short z lh lv =
+    let w = writable sources heads values space z in
+    let hn : length heads < 2 ^ 32 = word-sized (w .few) in
+    let hs : sources < 2 ^ 32 = word-sized (omega (arith, w .most)) in
     let v : readVerdict limits (recordOf sources heads values) (length headsBack) (length valuesBack) ≡ noRefusal =
-    reads-written sources heads values (w .same) hn hs hh hv limits space _ _ w ∙ rw (le-leb _ _ lh, le-leb _ _ lv) in (
+    reads-written sources heads values (w .same) hn hs hh hv limits space _ _ w taken short ∙ rw (le-leb _ _ lh, le-leb _ _ lv) in (
       rw (v, count-back sources heads values (w .same) hn hs hh hv, sources-back sources heads values (w .same) hn hs hh hv),
       rw (v, heads-back sources heads values (w .same) hn hs hh hv),
       rw (v, values-back sources heads values (w .same) hn hs hh hv),
@@ -136,11 +138,11 @@ reads-back limits events most sources heads values hh hv space headsBack valuesB
 -- The round trip: for everything the reader accepts, writing what it read returns the same bytes.
 pub writes-back : (limits : Limits) (bytes : List ℕ) → Below 256 bytes → (headPlaces valuePlaces : ℕ) (back : List ℕ)
     → WritesBack limits bytes headPlaces valuePlaces back
-    (writeAnswer limits (sourcesOf bytes) (headsOf bytes) (valuesOf bytes) (length back))
-    (writtenBytes limits (sourcesOf bytes) (headsOf bytes) (valuesOf bytes) back)
+    (writeAnswer (sourcesOf bytes) (headsOf bytes) (valuesOf bytes) (length back))
+    (writtenBytes (sourcesOf bytes) (headsOf bytes) (valuesOf bytes) back)
 writes-back limits bytes byte headPlaces valuePlaces back z l =
     let r = readable limits bytes headPlaces valuePlaces z in
-    let v : writeVerdict limits (sourcesOf bytes) (headsOf bytes) (valuesOf bytes) (length back) ≡ noRefusal =
+    let v : writeVerdict (sourcesOf bytes) (headsOf bytes) (valuesOf bytes) (length back) ≡ noRefusal =
     writes-read limits bytes _ _ byte r (length back) ∙ rw (le-leb _ _ l) in
     let long : lengthOf (length (headsOf bytes)) ≡ length bytes = rw (heads-length bytes (countOf bytes) (r .whole)) (sym (r .whole)) in
     (rw (v, long), rw (v, bytes-back limits bytes _ _ byte r))

@@ -20,35 +20,35 @@ thenAnswer v second = cond (allYes v) second (refusedAt (v .refusal) (v .place))
 abbrev pub thenLeaves : Verdict → List ℕ → List ℕ → List ℕ
 thenLeaves v second old = cond (allYes v) second old
 
--- Written, then read.
+-- Written, then read by a reader with these limits.
 abbrev pub writeReadAnswer : Limits → ℕ → List ℕ → List ℕ → ℕ → ℕ → ℕ → Answer
 writeReadAnswer limits sources heads values space headPlaces valuePlaces =
-    thenAnswer (writeVerdict limits sources heads values space) (readAnswer limits (recordOf sources heads values) headPlaces valuePlaces)
+    thenAnswer (writeVerdict sources heads values space) (readAnswer limits (recordOf sources heads values) headPlaces valuePlaces)
 
 abbrev pub writeReadHeads : Limits → ℕ → List ℕ → List ℕ → ℕ → List ℕ → List ℕ → List ℕ
 writeReadHeads limits sources heads values space headsBack valuesBack =
-    thenLeaves (writeVerdict limits sources heads values space) (readHeads limits (recordOf sources heads values) headsBack valuesBack) headsBack
+    thenLeaves (writeVerdict sources heads values space) (readHeads limits (recordOf sources heads values) headsBack valuesBack) headsBack
 
 abbrev pub writeReadValues : Limits → ℕ → List ℕ → List ℕ → ℕ → List ℕ → List ℕ → List ℕ
 writeReadValues limits sources heads values space headsBack valuesBack =
-    thenLeaves (writeVerdict limits sources heads values space) (readValues limits (recordOf sources heads values) headsBack valuesBack) valuesBack
+    thenLeaves (writeVerdict sources heads values space) (readValues limits (recordOf sources heads values) headsBack valuesBack) valuesBack
 
 -- For everything the writer accepts, reading what it wrote, where the arrays have n places, returns n, N, heads and values.
-abbrev pub ReadsBack : Limits → ℕ → List ℕ → List ℕ → ℕ → List ℕ → List ℕ → Answer → List ℕ → List ℕ → Type 0
-ReadsBack limits sources heads values space headsBack valuesBack answer headsExit valuesExit =
-    writeVerdict limits sources heads values space .refusal ≡ 0
+abbrev pub ReadsBack : ℕ → List ℕ → List ℕ → ℕ → List ℕ → List ℕ → Answer → List ℕ → List ℕ → Type 0
+ReadsBack sources heads values space headsBack valuesBack answer headsExit valuesExit =
+    writeVerdict sources heads values space .refusal ≡ 0
     → length heads ≤ length headsBack
     → length heads ≤ length valuesBack
     → (answer ≡ doneWith (length heads ∷ sources ∷ [])) × (headsExit ≡ filled heads headsBack) × (valuesExit ≡ filled values valuesBack)
 
--- Read, then written.
+-- Read by a reader with these limits, then written.
 abbrev pub readWriteAnswer : Limits → List ℕ → ℕ → ℕ → ℕ → Answer
 readWriteAnswer limits bytes headPlaces valuePlaces space =
-    thenAnswer (readVerdict limits bytes headPlaces valuePlaces) (writeAnswer limits (sourcesOf bytes) (headsOf bytes) (valuesOf bytes) space)
+    thenAnswer (readVerdict limits bytes headPlaces valuePlaces) (writeAnswer (sourcesOf bytes) (headsOf bytes) (valuesOf bytes) space)
 
 abbrev pub readWriteBytes : Limits → List ℕ → ℕ → ℕ → List ℕ → List ℕ
 readWriteBytes limits bytes headPlaces valuePlaces back =
-    thenLeaves (readVerdict limits bytes headPlaces valuePlaces) (writtenBytes limits (sourcesOf bytes) (headsOf bytes) (valuesOf bytes) back) back
+    thenLeaves (readVerdict limits bytes headPlaces valuePlaces) (writtenBytes (sourcesOf bytes) (headsOf bytes) (valuesOf bytes) back) back
 
 -- For everything the reader accepts, writing what it read, where there is room, returns the same bytes.
 abbrev pub WritesBack : Limits → List ℕ → ℕ → ℕ → List ℕ → Answer → List ℕ → Type 0
@@ -56,3 +56,13 @@ WritesBack limits bytes headPlaces valuePlaces back answer backExit =
     readVerdict limits bytes headPlaces valuePlaces .refusal ≡ 0
     → length bytes ≤ length back
     → (answer ≡ doneWith (length bytes ∷ [])) × (backExit ≡ filled bytes back)
+
+-- Document 02, No. 3. For everything the writer accepts, where a reader takes N and n, that reader returns n, N, heads and values too.
+abbrev pub ReadsBackWithin : Limits → ℕ → List ℕ → List ℕ → ℕ → List ℕ → List ℕ → Type 0
+ReadsBackWithin limits sources heads values space headsBack valuesBack =
+    sources ≤ limits .sources
+    → length heads ≤ limits .events
+    → ReadsBack sources heads values space headsBack valuesBack
+    (readAnswer limits (recordOf sources heads values) (length headsBack) (length valuesBack))
+    (readHeads limits (recordOf sources heads values) headsBack valuesBack)
+    (readValues limits (recordOf sources heads values) headsBack valuesBack)

@@ -19,12 +19,12 @@ pub fn write_then_read(
 ) -> ReadAnswer
     ensures { λ r. ⌜ readNumbers r ≡ writeReadAnswer board sources (now (heads .entry)) (now (values .entry))
         (length (now (bytes .entry))) (length (now («heads_back» .entry))) (length (now («values_back» .entry))) ⌝ }
-    ensures { λ _. ⌜ now (bytes .exit) ≡ writtenBytes board sources (now (heads .entry)) (now (values .entry)) (now (bytes .entry)) ⌝ }
+    ensures { λ _. ⌜ now (bytes .exit) ≡ writtenBytes sources (now (heads .entry)) (now (values .entry)) (now (bytes .entry)) ⌝ }
     ensures { λ _. ⌜ now («heads_back» .exit) ≡ writeReadHeads board sources (now (heads .entry)) (now (values .entry))
         (length (now (bytes .entry))) (now («heads_back» .entry)) (now («values_back» .entry)) ⌝ }
     ensures { λ _. ⌜ now («values_back» .exit) ≡ writeReadValues board sources (now (heads .entry)) (now (values .entry))
         (length (now (bytes .entry))) (now («heads_back» .entry)) (now («values_back» .entry)) ⌝ }
-    ensures { λ r. ⌜ ReadsBack board sources (now (heads .entry)) (now (values .entry)) (length (now (bytes .entry))) (now («heads_back» .entry)) (now («values_back» .entry))
+    ensures { λ r. ⌜ ReadsBack sources (now (heads .entry)) (now (values .entry)) (length (now (bytes .entry))) (now («heads_back» .entry)) (now («values_back» .entry))
         (readNumbers r) (now («heads_back» .exit)) (now («values_back» .exit)) ⌝ }
 {
     let written = record_writer::write(sources, heads, values, bytes);

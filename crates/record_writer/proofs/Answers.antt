@@ -7,45 +7,44 @@ use borrow.Author.Tests.{le-leb, lt-leb, eq-eqb, ne-eqb, not-true, not-false}
 use lib.ListN.{length}
 use Rattle.buffers.specs.Filled.{filled}
 use Rattle.event.specs.Event.{shapeOf}
-use Rattle.record.specs.declared.Limits.{Limits}
 use Rattle.record.specs.declared.Verdict.{Verdict}
-use Rattle.record.specs.Record.{recordOf, lengthOf}
+use Rattle.record.specs.Record.{mostEvents, recordOf, lengthOf}
 use Rattle.record.specs.Questions.{verdict, sourcesInRange, walk, writeVerdict}
 use Rattle.record.specs.Answers.{doneWith, refusedAt, writeAnswer, writtenBytes}
 
 -- The verdict of each no, given the answers before it as the code has them.
-module _ (limits : Limits) (sources : ℕ) (heads values : List ℕ) (space : ℕ) where
-  pub write-no-2 : not (sourcesInRange limits sources) ≡ true → verdict 2 0 ≡ writeVerdict limits sources heads values space
+module _ (sources : ℕ) (heads values : List ℕ) (space : ℕ) where
+  pub write-no-2 : not (sourcesInRange sources) ≡ true → verdict 2 0 ≡ writeVerdict sources heads values space
   unfolding writeVerdict
-  write-no-2 h = rw (not-true (sourcesInRange limits sources) h)
+  write-no-2 h = rw (not-true (sourcesInRange sources) h)
 
-  module _ (q2 : not (sourcesInRange limits sources) ≡ false) where
-    pub write-no-3 : limits .events < length heads → verdict 3 0 ≡ writeVerdict limits sources heads values space
+  module _ (q2 : not (sourcesInRange sources) ≡ false) where
+    pub write-no-3 : mostEvents < length heads → verdict 3 0 ≡ writeVerdict sources heads values space
     unfolding writeVerdict
-    write-no-3 h = rw (not-false (sourcesInRange limits sources) q2, lt-leb _ _ h)
+    write-no-3 h = rw (not-false (sourcesInRange sources) q2, lt-leb _ _ h)
 
-    module _ (q3 : length heads ≤ limits .events) where
-      pub write-no-4 : (length heads ≡ length values → ⊥) → verdict 4 0 ≡ writeVerdict limits sources heads values space
+    module _ (q3 : length heads ≤ mostEvents) where
+      pub write-no-4 : (length heads ≡ length values → ⊥) → verdict 4 0 ≡ writeVerdict sources heads values space
       unfolding writeVerdict
-      write-no-4 h = rw (not-false (sourcesInRange limits sources) q2, le-leb _ _ q3, ne-eqb _ _ h)
+      write-no-4 h = rw (not-false (sourcesInRange sources) q2, le-leb _ _ q3, ne-eqb _ _ h)
 
       module _ (q4 : length heads ≡ length values) where
-        pub write-no-5 : space < lengthOf (length heads) → verdict 5 0 ≡ writeVerdict limits sources heads values space
+        pub write-no-5 : space < lengthOf (length heads) → verdict 5 0 ≡ writeVerdict sources heads values space
         unfolding writeVerdict
-        write-no-5 h = rw (not-false (sourcesInRange limits sources) q2, le-leb _ _ q3, eq-eqb _ _ q4, lt-leb _ _ h)
+        write-no-5 h = rw (not-false (sourcesInRange sources) q2, le-leb _ _ q3, eq-eqb _ _ q4, lt-leb _ _ h)
 
-        pub write-walk : lengthOf (length heads) ≤ space → walk shapeOf heads values ≡ writeVerdict limits sources heads values space
+        pub write-walk : lengthOf (length heads) ≤ space → walk shapeOf heads values ≡ writeVerdict sources heads values space
         unfolding writeVerdict
-        write-walk h = rw (not-false (sourcesInRange limits sources) q2, le-leb _ _ q3, eq-eqb _ _ q4, le-leb _ _ h)
+        write-walk h = rw (not-false (sourcesInRange sources) q2, le-leb _ _ q3, eq-eqb _ _ q4, le-leb _ _ h)
 
 -- What is answered and left, refused and accepted.
-module _ (limits : Limits) (sources : ℕ) (heads values bytes : List ℕ) {v : Verdict} (e : v ≡ writeVerdict limits sources heads values (length bytes)) where
+module _ (sources : ℕ) (heads values bytes : List ℕ) {v : Verdict} (e : v ≡ writeVerdict sources heads values (length bytes)) where
   pub write-refused : (v .refusal ≡ 0 → ⊥)
-      → (refusedAt (v .refusal) (v .place) ≡ writeAnswer limits sources heads values (length bytes))
-      × (bytes ≡ writtenBytes limits sources heads values bytes)
+      → (refusedAt (v .refusal) (v .place) ≡ writeAnswer sources heads values (length bytes))
+      × (bytes ≡ writtenBytes sources heads values bytes)
   write-refused z = rw (← e, ne-eqb _ _ z) (refl, refl)
 
   pub write-accepted : {bs : List ℕ} → v .refusal ≡ 0 → bs ≡ filled (recordOf sources heads values) bytes
-      → (doneWith (lengthOf (length heads) ∷ []) ≡ writeAnswer limits sources heads values (length bytes))
-      × (bs ≡ writtenBytes limits sources heads values bytes)
+      → (doneWith (lengthOf (length heads) ∷ []) ≡ writeAnswer sources heads values (length bytes))
+      × (bs ≡ writtenBytes sources heads values bytes)
   write-accepted z eb = rw (eb, ← e, eq-eqb _ _ z) (refl, refl)

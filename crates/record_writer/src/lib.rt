@@ -7,11 +7,11 @@ ghost use lib.Seq.{sets};
 ghost use Rattle.buffers.specs.Filled.{filled};
 ghost use Rattle.event.specs.Event.{shapeOf};
 ghost use Rattle.record.specs.Words.{bytesOf, bytesOfWords};
-ghost use Rattle.record.specs.Record.{board, recordOf, lengthOf};
+ghost use Rattle.record.specs.Record.{recordOf, lengthOf};
 ghost use Rattle.record.specs.Questions.{walk, writeVerdict};
 ghost use Rattle.record.specs.Answers.{writeNumbers, writeAnswer, writtenBytes};
-use record::BOARD;
-use record::Limits;
+use record::MOST_EVENTS;
+use record::MOST_SOURCES;
 use record::Verdict;
 use record::WriteAnswer;
 
@@ -75,16 +75,16 @@ fn walk_arrays(heads: &[u32], values: &[u32]) -> Verdict
 }
 
 // Questions 2 to 7, writing.
-fn ask_writing(limits: Limits, sources: u32, heads: &[u32], values: &[u32], space: usize) -> Verdict
-    ensures { λ r. ⌜ r ≡ writeVerdict limits sources (now (heads .entry)) (now (values .entry)) space ⌝ }
+fn ask_writing(sources: u32, heads: &[u32], values: &[u32], space: usize) -> Verdict
+    ensures { λ r. ⌜ r ≡ writeVerdict sources (now (heads .entry)) (now (values .entry)) space ⌝ }
 {
-    if !((2 <= sources) & (sources <= limits.sources)) {
+    if !((2 <= sources) & (sources <= MOST_SOURCES)) {
         return Verdict {
             refusal: 2,
             place: 0,
         };
     }
-    if (limits.events as usize) < heads.len() {
+    if MOST_EVENTS < heads.len() {
         return Verdict {
             refusal: 3,
             place: 0,
@@ -105,18 +105,12 @@ fn ask_writing(limits: Limits, sources: u32, heads: &[u32], values: &[u32], spac
     walk_arrays(heads, values)
 }
 
-// Writes a record within limits.
-fn write_within(
-    limits: Limits,
-    sources: u32,
-    heads: &[u32],
-    values: &[u32],
-    bytes: &mut [u8],
-) -> WriteAnswer
-    ensures { λ r. ⌜ writeNumbers r ≡ writeAnswer limits sources (now (heads .entry)) (now (values .entry)) (length (now (bytes .entry))) ⌝ }
-    ensures { λ _. ⌜ now (bytes .exit) ≡ writtenBytes limits sources (now (heads .entry)) (now (values .entry)) (now (bytes .entry)) ⌝ }
+// Writes a record: accepted, it fills the first bytes; refused, all of them stay as they were.
+pub fn write(sources: u32, heads: &[u32], values: &[u32], bytes: &mut [u8]) -> WriteAnswer
+    ensures { λ r. ⌜ writeNumbers r ≡ writeAnswer sources (now (heads .entry)) (now (values .entry)) (length (now (bytes .entry))) ⌝ }
+    ensures { λ _. ⌜ now (bytes .exit) ≡ writtenBytes sources (now (heads .entry)) (now (values .entry)) (now (bytes .entry)) ⌝ }
 {
-    let verdict = ask_writing(limits, sources, heads, values, bytes.len());
+    let verdict = ask_writing(sources, heads, values, bytes.len());
     if verdict.refusal != 0 {
         return WriteAnswer::Refused {
             refusal: verdict.refusal,
@@ -127,12 +121,4 @@ fn write_within(
     WriteAnswer::Done {
         length: 8 + 8 * heads.len(),
     }
-}
-
-// Writes a record: accepted, it fills the first bytes; refused, all of them stay as they were.
-pub fn write(sources: u32, heads: &[u32], values: &[u32], bytes: &mut [u8]) -> WriteAnswer
-    ensures { λ r. ⌜ writeNumbers r ≡ writeAnswer board sources (now (heads .entry)) (now (values .entry)) (length (now (bytes .entry))) ⌝ }
-    ensures { λ _. ⌜ now (bytes .exit) ≡ writtenBytes board sources (now (heads .entry)) (now (values .entry)) (now (bytes .entry)) ⌝ }
-{
-    write_within(BOARD, sources, heads, values, bytes)
 }

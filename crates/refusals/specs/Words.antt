@@ -6,7 +6,7 @@ use mathlib.Core.List.{List, [], _∷_, _++_}
 use lib.Dec.{eqb}
 use Rattle.digits.specs.Ascii.{ascii}
 
--- Each number is that of the question of document 01 that was answered no. Questions about a record or a machine that is handed in:
+-- Each number is that of the question of document 01 or 02 that was answered no. Questions about a record or a machine that is handed in:
 unfoldable pub recordRows : List (ℕ × String)
 recordRows =
     (1, "fewer than 8 bytes")
@@ -17,6 +17,8 @@ recordRows =
     ∷ (6, "the kind is not 0 to 10")
     ∷ (7, "an address or a value that the kind does not use is not 0")
     ∷ (8, "the machine handed in is not sound")
+    ∷ (22, "N is above 63, the compact player's most")
+    ∷ (23, "more than 500 events, the compact player's most")
     ∷ []
 
 -- Questions about an event:

@@ -61,6 +61,12 @@ pub fn put_words(buffer: &mut [u8], at: usize, refusal: u8) -> usize
             b"an address or a value that the kind does not use is not 0",
         ),
         8 => put_text(buffer, at, b"the machine handed in is not sound"),
+        22 => put_text(buffer, at, b"N is above 63, the compact player's most"),
+        23 => put_text(
+            buffer,
+            at,
+            b"more than 500 events, the compact player's most",
+        ),
         _ => put_event_words(buffer, at, refusal),
     }
 }

@@ -10,7 +10,7 @@ use lib.ListN.{length, getD, take, drop}
 use lib.Seq.{take-length, getD-take, getD-drop}
 use Rattle.record.specs.declared.WriteAnswer.{WriteAnswer}
 use Rattle.record.specs.declared.WriteAnswer.the-variants as writing
-use Rattle.record.specs.Record.{board, recordSize, mostEvents}
+use Rattle.record.specs.Record.{recordSize, mostEvents}
 use Rattle.record.specs.Questions.{writeVerdict}
 use Rattle.record.specs.Answers.{Answer, doneWith, refusedAt, writeNumbers, writeAnswer, writtenBytes}
 use Rattle.record.proofs.Answers.{write-done, write-not}
@@ -77,23 +77,23 @@ module _ (text bytes : List ℕ) {f : Fault} (e : f ≡ textFault text) where
   -- It has none, and what it says was written.
   module _ (z : f .why ≡ 0) (long : length bytes ≡ recordSize) {sources : ℕ} {hs vs d : List ℕ} (r : WriteAnswer)
       (es : sources ≡ sourcesOfText text) (eh : hs ≡ headsOfText text) (ev : vs ≡ valuesOfText text)
-      (er : writeNumbers r ≡ writeAnswer board sources hs vs (length bytes)) (ed : d ≡ writtenBytes board sources hs vs bytes) where
+      (er : writeNumbers r ≡ writeAnswer sources hs vs (length bytes)) (ed : d ≡ writtenBytes sources hs vs bytes) where
     made : (written (writeNumbers r) (lineOf text (writeNumbers r)) ≡ toRecordAnswer text recordSize) × (d ≡ toRecordBytes text bytes)
     made = rw (← e, eq-eqb (f .why) 0 z, ← es, ← eh, ← ev, ← long) (ap (λ (a : Answer). written a (lineOf text a)) er, ed)
 
     pub made-done : length d ≡ length bytes → {l : ℕ} → r ≡ writing.Done l
         → (written (doneWith (l ∷ [])) 0 ≡ toRecordAnswer text recordSize) × ((d ≡ toRecordBytes text bytes) × (l ≤ length d))
     made-done ld q =
-        let done = write-done board sources hs vs (length bytes) er q in
-        let w = writable board sources hs vs (length bytes) (done .0) in
+        let done = write-done sources hs vs (length bytes) er q in
+        let w = writable sources hs vs (length bytes) (done .0) in
         (ap (λ (a : WriteAnswer). written (writeNumbers a) (lineOf text (writeNumbers a))) (sym q) ∙ made .0, (made .1, omega (arith, ld, w .holds, done .1)))
 
     -- The place of a question about an event is that of one.
     pub place-there : {number place : ℕ} → r ≡ writing.Refused number place → 6 ≤ number → place < length hs
     place-there {number} {place} q six =
-        let no = write-not board sources hs vs (length bytes) er q in
-        let h : 6 ≤ writeVerdict board sources hs vs (length bytes) .refusal = rw (no .1) at six in
-        rw (no .2) (write-place board sources hs vs (length bytes) h)
+        let no = write-not sources hs vs (length bytes) er q in
+        let h : 6 ≤ writeVerdict sources hs vs (length bytes) .refusal = rw (no .1) at six in
+        rw (no .2) (write-place sources hs vs (length bytes) h)
 
     -- A refusal, with the line that it is about.
     pub made-refused : {n first number place line : ℕ} (numbers : List ℕ) → n ≡ length hs → n ≤ length numbers
@@ -101,7 +101,7 @@ module _ (text bytes : List ℕ) {f : Fault} (e : f ≡ textFault text) where
         → r ≡ writing.Refused number place → line ≡ cond (ltb number 6) first (getD numbers place 0)
         → (written (refusedAt number place) line ≡ toRecordAnswer text recordSize) × (d ≡ toRecordBytes text bytes)
     made-refused {n} {first} {number} {place} {line} numbers en few ef eb q el =
-        let no = write-not board sources hs vs (length bytes) er q in
+        let no = write-not sources hs vs (length bytes) er q in
         let not-0 : number ≡ 0 → ⊥ = λ y. no .0 (sym (no .1) ∙ y) in
         let there : line ≡ lineOf text (refusedAt number place) = rw (ne-eqb number 0 not-0) (el ∙ by-case (ltb number 6) refl) in
         (ap (written (refusedAt number place)) there ∙ ap (λ (a : WriteAnswer). written (writeNumbers a) (lineOf text (writeNumbers a))) (sym q) ∙ made .0, made .1)

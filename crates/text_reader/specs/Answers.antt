@@ -4,7 +4,6 @@ use mathlib.Core.Bool.{Bool, cond}
 use mathlib.Core.List.{List, [], _∷_}
 use lib.ListN.{getD}
 use lib.Dec.{leb, eqb}
-use Rattle.record.specs.Record.{board}
 use Rattle.record.specs.Answers.{Answer, doneWith, refusedAt, writeAnswer, writtenBytes}
 use Rattle.text_reader.specs.declared.RecordAnswer.{RecordAnswer}
 use Rattle.text_reader.specs.declared.RecordAnswer.the-variants as toRecord
@@ -39,7 +38,7 @@ lineOf text answer =
 
 -- What the writer answers to what the text says.
 abbrev pub writerAnswer : List ℕ → ℕ → Answer
-writerAnswer text space = writeAnswer board (sourcesOfText text) (headsOfText text) (valuesOfText text) space
+writerAnswer text space = writeAnswer (sourcesOfText text) (headsOfText text) (valuesOfText text) space
 
 abbrev pub toRecordAnswer : List ℕ → ℕ → LinesAnswer
 toRecordAnswer text space =
@@ -48,7 +47,7 @@ toRecordAnswer text space =
 -- The record fills the first bytes. The bytes beyond, and where the text is refused all of them, stay as they were.
 abbrev pub toRecordBytes : List ℕ → List ℕ → List ℕ
 toRecordBytes text bytes =
-    cond (isWell text) (writtenBytes board (sourcesOfText text) (headsOfText text) (valuesOfText text) bytes) bytes
+    cond (isWell text) (writtenBytes (sourcesOfText text) (headsOfText text) (valuesOfText text) bytes) bytes
 
 -- The length of the record that was made, 0 where none was.
 abbrev pub recordLength : RecordAnswer → ℕ

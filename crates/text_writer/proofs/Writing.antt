@@ -21,7 +21,7 @@ use Rattle.record.specs.declared.ReadAnswer.the-variants as reading
 use Rattle.record.specs.Record.{board, mostEvents}
 use Rattle.record.specs.Questions.{boardVerdict}
 use Rattle.record.specs.Answers.{doneWith, refusedAt, readNumbers, readAnswer}
-use Rattle.record.proofs.Questions.{board-verdict}
+use Rattle.record.proofs.Questions.{own-arrays}
 use Rattle.record.proofs.Answers.{read-not}
 use Rattle.record.proofs.Parts.{Parts}
 use Rattle.text_reader.specs.Lines.{lineFeed, colon}
@@ -144,7 +144,7 @@ module _ (bytes text : List ℕ) {headPlaces valuePlaces n s : ℕ} {hs vs : Lis
   pub text-made : {l : ℕ} {d : List ℕ} → l ≡ length (listingOf s (take n hs) (take n vs)) → d ≡ filled (listingOf s (take n hs) (take n vs)) text
       → (doneWith (l ∷ []) ≡ toTextAnswer bytes) × (d ≡ toTextBytes bytes text)
   text-made {l} {d} el ed =
-      let yes : boardVerdict bytes .refusal ≡ 0 = rw (board-verdict bytes eh ev) at (p .yes) in
+      let yes : boardVerdict bytes .refusal ≡ 0 = rw (own-arrays board bytes eh ev) at (p .yes) in
       let el′ : l ≡ length (textOf bytes) = rw (p .heads, p .values, p .sources) at el in
       let ed′ : d ≡ filled (textOf bytes) text = rw (p .heads, p .values, p .sources) at ed in
       rw (eq-eqb _ _ yes) (ap (λ (k : ℕ). doneWith (k ∷ [])) el′, ed′)

@@ -2,6 +2,7 @@
 
 ghost use mathlib.Core.Path.{_≡_};
 ghost use lib.ListN.{length};
+ghost use Rattle.record.specs.Record.{board};
 ghost use Rattle.playback.specs.Print.{printedLength, printedInto};
 ghost use Rattle.playback_numbers.specs.Numbers.{numbersOf, answersLeft, refusalsLeft};
 ghost use Rattle.veer_eh1.specs.End.{sevenOf};
@@ -10,8 +11,8 @@ ghost use Rattle.veer_eh1.specs.End.{sevenOf};
 // than the record's print may need, nothing is changed, and the answer is 0.
 #[no_mangle]
 pub extern "C" fn veer_eh1_play(record: &[u8], print: &mut [u8]) -> usize
-    ensures { λ r. ⌜ r ≡ printedLength (now («record» .entry)) (length (now (print .entry))) ⌝ }
-    ensures { λ _. ⌜ now (print .exit) ≡ printedInto (now («record» .entry)) (now (print .entry)) ⌝ }
+    ensures { λ r. ⌜ r ≡ printedLength board (now («record» .entry)) (length (now (print .entry))) ⌝ }
+    ensures { λ _. ⌜ now (print .exit) ≡ printedInto board (now («record» .entry)) (now (print .entry)) ⌝ }
 {
     playback::print_into(record, print)
 }

@@ -2,6 +2,7 @@ use mathlib.Core.Path.{_≡_, sym}
 use native.Mathlib.Omega.{arith}
 use lib.ListN.{length}
 use lib.Seq.{length-take-le}
+use Rattle.record.specs.Record.{board}
 use Rattle.playback.proofs.Reading.{WasRead, was-read, WasRefused, was-refused}
 use Rattle.playback_numbers.proofs.Reading.{served, refused-few}
 use Rattle.playback_numbers.proofs.Playing.{left-played, left-refused}
@@ -11,18 +12,18 @@ use Rattle.playback_numbers.proofs.play_into.Tie as tie
 
 -- The record that was read.
 done : (c : tie.After-got)
-    → WasRead (denote.Ref.now (c .before .before .before .before .before .before .before .before .before .before .before .before .before .before .args .«record»)) (length (denote.Ref.now (c .before .before .before .before .before .before .before .before .before .before .before .before .before .before .args .answers))) (length (denote.Ref.now (c .before .before .before .before .before .before .before .before .before .before .before .before .before .before .args .refusals))) (c .before .before .before .before .before .before .read .last .1 .0) (c .before .before .before .before .before .before .read .last .1 .1 .0) (c .got .given .0 .0) (c .got .given .0 .1 .0)
+    → WasRead board (denote.Ref.now (c .before .before .before .before .before .before .before .before .before .before .before .before .before .before .args .«record»)) (length (denote.Ref.now (c .before .before .before .before .before .before .before .before .before .before .before .before .before .before .args .answers))) (length (denote.Ref.now (c .before .before .before .before .before .before .before .before .before .before .before .before .before .before .args .refusals))) (c .before .before .before .before .before .before .read .last .1 .0) (c .before .before .before .before .before .before .read .last .1 .1 .0) (c .got .given .0 .0) (c .got .given .0 .1 .0)
 done c =
     let s = c .before .before .before .before .before .before .before .before .before .before .before .before .before .before in
-    was-read (s .args .«record» .now) (s .args .heads .now) (s .args .values .now) (length (s .args .answers .now)) (length (s .args .refusals .now))
+    was-read board (s .args .«record» .now) (s .args .heads .now) (s .args .values .now) (length (s .args .answers .now)) (length (s .args .refusals .now))
     (served (s .args .«record» .now) (s .args .heads .now) (s .args .values .now) (length (s .args .answers .now)) (length (s .args .refusals .now)) (s .pre .0) (s .pre .1))
     (c .before .before .before .before .before .before .read .kept .1 .0) (c .before .before .before .before .before .before .read .kept .1 .1 .0) (c .before .before .before .before .before .before .read .ensures .0) (c .before .before .before .before .before .before .read .ensures .1 .0) (c .before .before .before .before .before .before .read .ensures .1 .1) (c .got .given .1)
 
 -- The record that was refused.
-not : (c : tie.After-got2) → WasRefused (denote.Ref.now (c .before .before .before .before .before .before .before .before .before .before .before .before .before .before .args .«record»)) (length (denote.Ref.now (c .before .before .before .before .before .before .before .before .before .before .before .before .before .before .args .answers))) (length (denote.Ref.now (c .before .before .before .before .before .before .before .before .before .before .before .before .before .before .args .refusals))) (c .got2 .given .0 .0) (c .got2 .given .0 .1 .0)
+not : (c : tie.After-got2) → WasRefused board (denote.Ref.now (c .before .before .before .before .before .before .before .before .before .before .before .before .before .before .args .«record»)) (length (denote.Ref.now (c .before .before .before .before .before .before .before .before .before .before .before .before .before .before .args .answers))) (length (denote.Ref.now (c .before .before .before .before .before .before .before .before .before .before .before .before .before .before .args .refusals))) (c .got2 .given .0 .0) (c .got2 .given .0 .1 .0)
 not c =
     let s = c .before .before .before .before .before .before .before .before .before .before .before .before .before .before in
-    was-refused (s .args .«record» .now) (s .args .heads .now) (s .args .values .now) (length (s .args .answers .now)) (length (s .args .refusals .now))
+    was-refused board (s .args .«record» .now) (s .args .heads .now) (s .args .values .now) (length (s .args .answers .now)) (length (s .args .refusals .now))
     (served (s .args .«record» .now) (s .args .heads .now) (s .args .values .now) (length (s .args .answers .now)) (length (s .args .refusals .now)) (s .pre .0) (s .pre .1))
     (c .before .before .before .before .before .before .read .ensures .0) (c .got2 .given .1)
 

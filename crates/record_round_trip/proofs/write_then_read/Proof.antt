@@ -1,11 +1,9 @@
 use borrow.Author.Needs.{needs}
-use Prim.Native.Nat.{_≤_, _<_, _^_}
+use Prim.Native.Nat.{_≤_}
 use mathlib.Core.Path.{sym}
 use native.Mathlib.Omega.{arith}
-use lib.Dec.{lit<}
 use lib.ListN.{length}
 use lib.Seq.{length-take-le}
-use Rattle.record.specs.Record.{board, mostEvents, mostSources}
 use Rattle.record.proofs.Questions.{writable}
 use Rattle.record.proofs.Answers.{write-done}
 use Rattle.record_round_trip.proofs.Calls.{written-read, not-written}
@@ -23,8 +21,8 @@ fits : (c : tie.After-written) → c .written .given .0 .0 ≤ length (c .before
 fits c =
     let args = c .before .before .before .before .before .before .before .before .before .before .before .args in
     let written = c .before .before .before .before .write in
-    let done = write-done board (args .sources) (args .heads .now) (args .values .now) (length (args .bytes .now)) (written .ensures .0) (c .written .given .1) in
-    let w = writable board (args .sources) (args .heads .now) (args .values .now) (length (args .bytes .now)) (done .0) in
+    let done = write-done (args .sources) (args .heads .now) (args .values .now) (length (args .bytes .now)) (written .ensures .0) (c .written .given .1) in
+    let w = writable (args .sources) (args .heads .now) (args .values .now) (length (args .bytes .now)) (done .0) in
     omega (arith, written .kept .1 .1 .1 .0, w .holds, done .1)
 
 slice-reshare-prefix-read : tie.Need-slice-reshare-prefix-read
@@ -56,9 +54,7 @@ returns c =
     let values-known = wrote .before .before .before .before .before in
     let heads-known = values-known .before in
     let args = heads-known .before .args in
-    let few : mostEvents < 2 ^ 32 = lit< tt in
-    let most : mostSources < 2 ^ 32 = lit< tt in
-    written-read board few most (args .sources) (args .heads .now) (args .values .now)
+    written-read (args .sources) (args .heads .now) (args .values .now)
     (λ i. heads-known .shared-slice-known .given i .fits) (λ i. values-known .shared-slice-known2 .given i .fits)
     (args .bytes .now) (args .heads-back .now) (args .values-back .now) (wrote .write .ensures .0) (wrote .write .ensures .1)
     (written .written .given .1) (got .read .ensures .0) (got .read .ensures .1 .0) (got .read .ensures .1 .1)
@@ -72,9 +68,7 @@ returns-2 c =
     let values-known = wrote .before .before .before .before .before in
     let heads-known = values-known .before in
     let args = heads-known .before .args in
-    let few : mostEvents < 2 ^ 32 = lit< tt in
-    let most : mostSources < 2 ^ 32 = lit< tt in
-    not-written board few most (args .sources) (args .heads .now) (args .values .now)
+    not-written (args .sources) (args .heads .now) (args .values .now)
     (λ i. heads-known .shared-slice-known .given i .fits) (λ i. values-known .shared-slice-known2 .given i .fits)
     (args .bytes .now) (args .heads-back .now) (args .values-back .now) (wrote .write .ensures .0) (wrote .write .ensures .1)
     (c .before .written2 .given .1)

@@ -5,18 +5,15 @@ use Rattle.record_writer.proofs.ask_writing.Statement.{statement}
 use Rattle.record_writer.proofs.ask_writing.Tie as tie
 
 returns : tie.Need-returns
-returns c = write-no-2 _ _ _ _ _ (c .if1 .taken)
-
-cast-if2 : tie.Need-cast-if2
-cast-if2 c = search needs
+returns c = write-no-2 _ _ _ _ (c .if1 .taken)
 
 returns-2 : tie.Need-returns-2
-returns-2 c = write-no-3 _ _ _ _ _ (c .before .before .if1 .left) (c .if2 .taken)
+returns-2 c = write-no-3 _ _ _ _ (c .before .if1 .left) (c .if2 .taken)
 
 returns-3 : tie.Need-returns-3
 returns-3 c =
     let at-3 = c .before in
-    write-no-4 _ _ _ _ _ (at-3 .before .before .if1 .left) (at-3 .if2 .left) (c .if3 .taken)
+    write-no-4 _ _ _ _ (at-3 .before .if1 .left) (at-3 .if2 .left) (c .if3 .taken)
 
 mul-if4 : tie.Need-mul-if4
 mul-if4 c = search needs
@@ -28,7 +25,7 @@ returns-4 : tie.Need-returns-4
 returns-4 c =
     let at-4 = c .before in
     let at-3 = at-4 .before in
-    write-no-5 _ _ _ _ _ (at-3 .before .before .if1 .left) (at-3 .if2 .left) (at-4 .if3 .left) (c .if4 .taken)
+    write-no-5 _ _ _ _ (at-3 .before .if1 .left) (at-3 .if2 .left) (at-4 .if3 .left) (c .if4 .taken)
 
 walk-arrays-requires : tie.Need-walk-arrays-requires
 walk-arrays-requires c κs = search needs
@@ -37,14 +34,13 @@ returns-5 : tie.Need-returns-5
 returns-5 c =
     let at-4 = c .before .before in
     let at-3 = at-4 .before in
-    c .walk-arrays .ensures ∙ write-walk _ _ _ _ _ (at-3 .before .before .if1 .left) (at-3 .if2 .left) (at-4 .if3 .left) (c .before .if4 .left)
+    c .walk-arrays .ensures ∙ write-walk _ _ _ _ (at-3 .before .if1 .left) (at-3 .if2 .left) (at-4 .if3 .left) (c .before .if4 .left)
 
 pub ask-writing-spec : {M : Type 1} → statement M
 ask-writing-spec =
     tie.close
     (tie.spec
     returns
-    cast-if2
     returns-2
     returns-3
     mul-if4

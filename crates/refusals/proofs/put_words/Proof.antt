@@ -53,6 +53,18 @@ slice-aggregate-put-text-8 c = search needs
 put-text-requires-8 : tie.Need-put-text-requires-8
 put-text-requires-8 c κs = search needs
 
+slice-aggregate-put-text-9 : tie.Need-slice-aggregate-put-text-9
+slice-aggregate-put-text-9 c = search needs
+
+put-text-requires-9 : tie.Need-put-text-requires-9
+put-text-requires-9 c κs = search needs
+
+slice-aggregate-put-text-10 : tie.Need-slice-aggregate-put-text-10
+slice-aggregate-put-text-10 c = search needs
+
+put-text-requires-10 : tie.Need-put-text-requires-10
+put-text-requires-10 c κs = search needs
+
 put-event-words-requires : tie.Need-put-event-words-requires
 put-event-words-requires c κs = search needs
 
@@ -116,8 +128,22 @@ same-length-9 : tie.Need-same-length-9
 same-length-9 c = search needs
 
 returns-9 : tie.Need-returns-9
+unfolding recordRows wordsIn ascii
+returns-9 c = rw (c .before .before .before .before .before .match .keys9) (c .before .before .put-text9 .ensures)
+
+same-length-10 : tie.Need-same-length-10
+same-length-10 c = search needs
+
+returns-10 : tie.Need-returns-10
+unfolding recordRows wordsIn ascii
+returns-10 c = rw (c .before .before .before .before .before .match .keys10) (c .before .before .put-text10 .ensures)
+
+same-length-11 : tie.Need-same-length-11
+same-length-11 c = search needs
+
+returns-11 : tie.Need-returns-11
 unfolding recordRows
-returns-9 c = rw (behind (c .before .before .before .before .before .before .args .refusal) _ recordRows eventRows (c .before .before .before .before .match .rest)) (c .before .before .put-event-words .ensures)
+returns-11 c = rw (behind (c .before .before .before .before .before .before .args .refusal) _ recordRows eventRows (c .before .before .before .before .match .rest)) (c .before .before .put-event-words .ensures)
 
 pub put-words-spec : {M : Type 1} → statement M
 put-words-spec =
@@ -139,6 +165,10 @@ put-words-spec =
     put-text-requires-7
     slice-aggregate-put-text-8
     put-text-requires-8
+    slice-aggregate-put-text-9
+    put-text-requires-9
+    slice-aggregate-put-text-10
+    put-text-requires-10
     put-event-words-requires
     same-length
     returns
@@ -157,4 +187,8 @@ put-words-spec =
     same-length-8
     returns-8
     same-length-9
-    returns-9)
+    returns-9
+    same-length-10
+    returns-10
+    same-length-11
+    returns-11)
