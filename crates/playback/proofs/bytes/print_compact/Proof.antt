@@ -1,6 +1,5 @@
 use Prim.Native.Nat.{ℕ}
-use mathlib.Core.Path.{_≡_}
-use lib.ListN.{length, replicate, length-replicate}
+use lib.ListN.{length-replicate}
 use Rattle.record.specs.Record.{compact, compactEvents}
 use Rattle.playback.proofs.Reading.{room-enough, print-first}
 use borrow.Author.Needs.{needs}
@@ -19,11 +18,8 @@ slice-aggregate-print-within-3 c = search needs
 slice-aggregate-print-within-4 : tie.Need-slice-aggregate-print-within-4
 slice-aggregate-print-within-4 c = search needs
 
-zeros : length (replicate {A = ℕ} compactEvents 0) ≡ compactEvents
-zeros = length-replicate {A = ℕ} compactEvents 0
-
 print-within-requires : tie.Need-print-within-requires
-print-within-requires c κs = (zeros, zeros, zeros, zeros)
+print-within-requires c κs = let places = length-replicate {A = ℕ} compactEvents 0 in (places, places, places, places)
 
 returns : tie.Need-returns
 returns c =

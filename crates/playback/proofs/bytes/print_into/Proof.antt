@@ -1,6 +1,5 @@
 use Prim.Native.Nat.{ℕ}
-use mathlib.Core.Path.{_≡_}
-use lib.ListN.{length, replicate, length-replicate}
+use lib.ListN.{length-replicate}
 use Rattle.record.specs.Record.{mostEvents}
 use borrow.Author.Needs.{needs}
 use Rattle.playback.proofs.bytes.print_into.Statement.{statement}
@@ -18,11 +17,8 @@ slice-aggregate-print-within-3 c = search needs
 slice-aggregate-print-within-4 : tie.Need-slice-aggregate-print-within-4
 slice-aggregate-print-within-4 c = search needs
 
-zeros : length (replicate {A = ℕ} mostEvents 0) ≡ mostEvents
-zeros = length-replicate {A = ℕ} mostEvents 0
-
 print-within-requires : tie.Need-print-within-requires
-print-within-requires c κs = (zeros, zeros, zeros, zeros)
+print-within-requires c κs = let places = length-replicate {A = ℕ} mostEvents 0 in (places, places, places, places)
 
 same-length : tie.Need-same-length
 same-length c = search needs
