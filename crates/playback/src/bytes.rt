@@ -111,8 +111,7 @@ fn print_room(events: usize) -> usize
     FIRST_LINE_SIZE + events * EVENT_LINE_SIZE + LAST_LINE_SIZE
 }
 
-// Prints a record by a reader with these limits, whose arrays have a place for each event that it takes, into a buffer of any length: the print fills its
-// first bytes, and the answer is how many. With less room than the record's print may need it stays as it was, nothing is played, and the answer is 0.
+// Prints a record by a reader with these limits, whose arrays have a place for each event that it takes, into a buffer of any length, as print_into does.
 fn print_within(
     limits: Limits,
     record: &[u8],
@@ -151,7 +150,8 @@ fn print_within(
     }
 }
 
-// Prints any record into a buffer of any length, as print_within does.
+// Prints any record into a buffer of any length: the print fills its first bytes, and the answer is how many. With less room than the record's print may
+// need it stays as it was, nothing is played, and the answer is 0.
 pub fn print_into(record: &[u8], out: &mut [u8]) -> usize
     ensures { λ r. ⌜ r ≡ printedLength board (now («record» .entry)) (length (now (out .entry))) ⌝ }
     ensures { λ _. ⌜ now (out .exit) ≡ printedInto board (now («record» .entry)) (now (out .entry)) ⌝ }

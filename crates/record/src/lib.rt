@@ -166,7 +166,7 @@ fn ask_reading(limits: Limits, bytes: &[u8], head_places: usize, value_places: u
     walk_bytes(bytes, n)
 }
 
-// Reads a record within the limits of a reader: accepted, heads and values fill the first places of the arrays; refused, both stay as they were.
+// Reads a record within the limits of a reader, as read does.
 pub fn read_within(
     limits: Limits,
     bytes: &[u8],
@@ -193,7 +193,7 @@ pub fn read_within(
     }
 }
 
-// Reads any record, as read_within does.
+// Reads any record: accepted, heads and values fill the first places of the arrays; refused, both stay as they were.
 pub fn read(bytes: &[u8], heads: &mut [u32], values: &mut [u32]) -> ReadAnswer
     ensures { λ r. ⌜ readNumbers r ≡ readAnswer board (now (bytes .entry)) (length (now (heads .entry))) (length (now (values .entry))) ⌝ }
     ensures { λ _. ⌜ now (heads .exit) ≡ readHeads board (now (bytes .entry)) (now (heads .entry)) (now (values .entry)) ⌝ }
@@ -202,7 +202,7 @@ pub fn read(bytes: &[u8], heads: &mut [u32], values: &mut [u32]) -> ReadAnswer
     read_within(BOARD, bytes, heads, values)
 }
 
-// Reads a short record, as read_within does: the compact reader.
+// Reads a short record, as read does: the compact reader.
 pub fn read_compact(bytes: &[u8], heads: &mut [u32], values: &mut [u32]) -> ReadAnswer
     ensures { λ r. ⌜ readNumbers r ≡ readAnswer compact (now (bytes .entry)) (length (now (heads .entry))) (length (now (values .entry))) ⌝ }
     ensures { λ _. ⌜ now (heads .exit) ≡ readHeads compact (now (bytes .entry)) (now (heads .entry)) (now (values .entry)) ⌝ }
