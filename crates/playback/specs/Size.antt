@@ -1,6 +1,5 @@
 -- Bytes that are enough for a print: a first line, a line for each event and a last line, each as long as it can be.
 use Prim.Native.Nat.{ℕ, _+_, _*_}
-use Rattle.record.specs.Record.{mostEvents, compactEvents}
 
 -- The first line: two texts of 8 bytes, two numbers of at most 20 digits each, and the end of the line.
 abbrev pub firstLineSize : ℕ
@@ -17,11 +16,3 @@ lastLineSize = 9 + 20 + 7 + 20 + 8 + 1 + 20 + 1
 -- Enough for the print of a record with so many events.
 abbrev pub printRoom : ℕ → ℕ
 printRoom events = firstLineSize + events * eventLineSize + lastLineSize
-
--- Enough for the print of any record: as many events as a record has at most.
-abbrev pub printSize : ℕ
-printSize = printRoom mostEvents
-
--- Enough for the print of any record that the compact player takes.
-abbrev pub compactPrintSize : ℕ
-compactPrintSize = printRoom compactEvents

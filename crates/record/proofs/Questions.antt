@@ -14,10 +14,13 @@ use Rattle.record.specs.Record.{countOf, sourcesOf, headsOf, valuesOf, w
 use Rattle.record.specs.Questions.{verdict, noRefusal, question, sourcesInRange, sourcesTaken, countInRange, countTaken, arraysHold, walk, readVerdict, verdictWithin, writeVerdict}
 use Rattle.record.proofs.Walk.{walk-first}
 
--- Questions 2 and 22 of N, 3 and 23 of n, and then others.
+-- Questions 2, 22, 3 and 23 by their answers, and then others.
+abbrev fourThen : Bool → Bool → Bool → Bool → Verdict → Verdict
+fourThen two q22 three q23 next = question 2 two (question 22 q22 (question 3 three (question 23 q23 next)))
+
+-- The same of N and n.
 abbrev pub sizesThen : Limits → ℕ → ℕ → Verdict → Verdict
-sizesThen limits s n next =
-    question 2 (sourcesInRange s) (question 22 (sourcesTaken limits s) (question 3 (countInRange n) (question 23 (countTaken limits n) next)))
+sizesThen limits s n = fourThen (sourcesInRange s) (sourcesTaken limits s) (countInRange n) (countTaken limits n)
 
 -- The number of each no of these, given the answers before it as the code has them.
 module _ (limits : Limits) (s n : ℕ) where
@@ -39,11 +42,8 @@ module _ (limits : Limits) (s n : ℕ) where
         pub sizes-none : n ≤ limits .events → 0 ≡ sizesThen limits s n noRefusal .refusal
         sizes-none h = rw (not-false (sourcesInRange s) q2, le-leb _ _ q22, le-leb _ _ q3, le-leb _ _ h)
 
--- Four questions and then others: the first no decides, with place 0; where there is none, the others.
-module _ (i j k l : ℕ) (next : Verdict) where
-  abbrev fourThen : Bool → Bool → Bool → Bool → Verdict → Verdict
-  fourThen a b c d v = question (suc i) a (question (suc j) b (question (suc k) c (question (suc l) d v)))
-
+-- The first no decides, with place 0; where there is none, the others do.
+module _ (next : Verdict) where
   four-no : (a b c d : Bool) → (fourThen a b c d noRefusal .refusal ≡ 0 → ⊥) → verdict (fourThen a b c d noRefusal .refusal) 0 ≡ fourThen a b c d next
   four-no false b c d h = refl
   four-no true false c d h = refl
@@ -52,10 +52,10 @@ module _ (i j k l : ℕ) (next : Verdict) where
   four-no true true true true h = absurd (h refl)
 
   four-yes : (a b c d : Bool) → fourThen a b c d noRefusal .refusal ≡ 0 → next ≡ fourThen a b c d next
-  four-yes false b c d h = absurd (omega arith)
-  four-yes true false c d h = absurd (omega arith)
-  four-yes true true false d h = absurd (omega arith)
-  four-yes true true true false h = absurd (omega arith)
+  four-yes false b c d h = absurd (omega (arith, h))
+  four-yes true false c d h = absurd (omega (arith, h))
+  four-yes true true false d h = absurd (omega (arith, h))
+  four-yes true true true false h = absurd (omega (arith, h))
   four-yes true true true true h = refl
 
 -- Reading: the verdict of each no, given the answers before it as the code has them.
@@ -69,11 +69,11 @@ module _ (limits : Limits) (bytes : List ℕ) (hp vp : ℕ) where
     unfolding readVerdict
     read-no-sizes h =
         rw (le-leb _ _ q1, ← en, ← es, e)
-        (four-no 1 21 2 22 _ (sourcesInRange s) (sourcesTaken limits s) (countInRange n) (countTaken limits n) (λ z. h (e ∙ z)))
+        (four-no _ (sourcesInRange s) (sourcesTaken limits s) (countInRange n) (countTaken limits n) (λ z. h (e ∙ z)))
 
     module _ (yes : number ≡ 0) where
       others : (next : Verdict) → next ≡ sizesThen limits s n next
-      others next = four-yes 1 21 2 22 next (sourcesInRange s) (sourcesTaken limits s) (countInRange n) (countTaken limits n) (sym e ∙ yes)
+      others next = four-yes next (sourcesInRange s) (sourcesTaken limits s) (countInRange n) (countTaken limits n) (sym e ∙ yes)
 
       pub read-no-4 : (length bytes ≡ lengthOf n → ⊥) → verdict 4 0 ≡ readVerdict limits bytes hp vp
       unfolding readVerdict

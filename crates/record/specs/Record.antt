@@ -31,12 +31,9 @@ compact = record { sources = compactSources; events = compactEvents }
 abbrev pub lengthOf : ℕ → ℕ
 lengthOf n = 8 + 8 * n
 
--- The longest record has 32,008 bytes; the longest that the compact reader takes has 4,008.
+-- The longest record has 32,008 bytes.
 abbrev pub recordSize : ℕ
 recordSize = lengthOf mostEvents
-
-abbrev pub compactSize : ℕ
-compactSize = lengthOf compactEvents
 
 -- Sizes, then two arrays, all 32-bit little-endian: event count n, N, n heads, n values.
 abbrev pub recordOf : ℕ → List ℕ → List ℕ → List ℕ
