@@ -3,6 +3,7 @@
 use crate::event::*;
 use crate::machine::*;
 use crate::random::Random;
+use crate::rank::Rank;
 use crate::record::{lay_out, Limits, Record, BOARD, COMPACT};
 use crate::script::{choose_count, Script, Weights, EVEN};
 use crate::timer::*;
@@ -34,6 +35,8 @@ pub const FAMILIES: &[Family] = &[
     ("chains", chains),
     ("priority order", priority_order),
     ("mirror", mirror),
+    ("fields", fields),
+    ("switches", switches),
     ("thresholds", thresholds),
     ("gateways", gateways),
     ("current", current),
@@ -143,6 +146,9 @@ fn some_weights(random: &mut Random) -> Weights {
 fn mixed(random: &mut Random, limits: Limits) -> Vec<u8> {
     let mut script = Script::new(random, limits);
     let weights = some_weights(random);
+    if random.chance(1, 4) {
+        script.reverse();
+    }
     script.wander(&weights, random.between(30, 400) as usize);
     script.audit();
     finish(script)
@@ -163,6 +169,9 @@ fn fill(script: &mut Script, random: &mut Random) {
     while !script.full() {
         let weights = some_weights(random);
         script.refocus();
+        if random.chance(1, 4) {
+            script.reverse();
+        }
         script.wander(&weights, random.between(100, 600) as usize);
         script.audit();
     }
@@ -254,7 +263,7 @@ fn question_order(random: &mut Random, limits: Limits) -> Vec<u8> {
     let mut script = Script::new(random, limits);
     for _ in 0..random.between(5, 40) {
         let value = random.word();
-        match random.below(10) {
+        match random.below(11) {
             0 => {
                 script.load(random.pick(&[0x8002, 0x8001, 0xFFFF, 0x9003, 0x8000]));
             }
@@ -286,6 +295,15 @@ fn question_order(random: &mut Random, limits: Limits) -> Vec<u8> {
             7 => {
                 script.sample(random.pick(&[7, 8, 0x1007, 0x8000]), value);
             }
+            8 => {
+                // The other order, where it is not to be had.
+                let other = value & !1 | u32::from(!script.machine.priord);
+                let mut offsets = vec![0x3001, 0x3002, 0x3003, 0x3004, 0xB000, 0xB002];
+                if !script.machine.handlers.is_empty() {
+                    offsets.extend([0x3000; 4]);
+                }
+                script.store(random.pick(&offsets), other);
+            }
             _ => {
                 script.serve();
                 script.serve();
@@ -297,13 +315,14 @@ fn question_order(random: &mut Random, limits: Limits) -> Vec<u8> {
 }
 
 /// A strictly rising list of ranks, often all fifteen.
-fn rising_ranks(random: &mut Random) -> Vec<u8> {
+fn rising_ranks(random: &mut Random) -> Vec<Rank> {
     let most = if random.coin() {
         16
     } else {
         random.between(4, 16)
     };
-    (1..=15u8).filter(|_| random.chance(most, 16)).collect()
+    let chosen = (1..=15).filter(|_| random.chance(most, 16));
+    chosen.map(Rank).collect()
 }
 
 /// Tries what a handler must not do, or may do without effect on nesting.
@@ -377,28 +396,27 @@ fn chain_variants(script: &mut Script, random: &mut Random) {
         }
         // Of the same rank, but not above the threshold.
         3 => {
-            let before = script.machine.threshold;
+            let before = script.machine.threshold_rank();
             script.request(other, top.rank);
-            let rank = (top.rank + random.below(2) as u8).min(15);
-            script.set_threshold(rank);
+            let higher = top.rank.higher();
+            script.set_threshold(if random.coin() { top.rank } else { higher });
             script.chain();
             if random.chance(3, 4) {
-                script.set_threshold(top.rank - 1);
+                script.set_threshold(top.rank.lower());
                 script.chain();
             }
             script.set_threshold(before);
         }
         // A higher winner.
         4 => {
-            let rank = (top.rank + 1).min(15);
-            script.request(other, rank);
+            script.request(other, top.rank.higher());
             script.chain();
             script.quiet(other);
         }
         // A lower winner, or none.
         5 => {
             script.quiet(own);
-            script.request(other, top.rank - 1);
+            script.request(other, top.rank.lower());
             script.chain();
         }
         6 => {
@@ -420,18 +438,16 @@ fn chain_variants(script: &mut Script, random: &mut Random) {
 
 fn start_nesting(script: &mut Script, random: &mut Random) {
     if random.chance(1, 3) {
-        script.set_priord(true);
+        script.reverse();
     }
     if random.coin() {
         script.set_base();
     }
     if random.chance(1, 4) {
-        let rank = random.below(4) as u8;
-        script.set_current(rank);
+        script.set_current(random.rank(0, 3));
     }
     if random.chance(1, 4) {
-        let rank = random.below(4) as u8;
-        script.set_threshold(rank);
+        script.set_threshold(random.rank(0, 3));
     }
     script.set_mask(1);
 }
@@ -521,10 +537,10 @@ fn nesting_one_source(random: &mut Random, limits: Limits) -> Vec<u8> {
     while !script.machine.handlers.is_empty() && !script.full() {
         script.csr_read(MEICURPL);
         script.set_mask(0);
-        let top = script.machine.handlers.last().map_or(0, |top| top.rank);
+        let top = script.machine.handlers.last().map(|top| top.rank);
         match random.below(3) {
             0 => {
-                script.set_rank(source, top);
+                script.set_rank(source, top.unwrap_or_default());
                 script.chain();
             }
             1 => {
@@ -568,7 +584,7 @@ fn nesting_wandering(random: &mut Random, limits: Limits) -> Vec<u8> {
 fn chains(random: &mut Random, limits: Limits) -> Vec<u8> {
     let mut script = Script::new(random, limits);
     start_nesting(&mut script, random);
-    let rank = random.between(4, 15) as u8;
+    let rank = random.rank(4, 15);
     let focus = script.focus.clone();
     for &source in &focus {
         if random.coin() {
@@ -576,7 +592,7 @@ fn chains(random: &mut Random, limits: Limits) -> Vec<u8> {
             script.set_gateway(source, edge, active_low);
         }
         let off = random.chance(1, 6);
-        script.request(source, if off { rank - 1 } else { rank });
+        script.request(source, if off { rank.lower() } else { rank });
     }
     for _ in 0..random.between(1, 6) {
         script.take();
@@ -616,8 +632,10 @@ fn priority_order(random: &mut Random, limits: Limits) -> Vec<u8> {
         let value = random.word();
         match random.below(10) {
             0..=2 => {
-                let flipped = !script.machine.priord;
-                script.set_priord(flipped);
+                script.switch();
+                if random.coin() {
+                    script.lower_bars();
+                }
             }
             3 => {
                 script.store(4 * source, value);
@@ -658,8 +676,8 @@ fn shuffled_fields(random: &mut Random) -> [u32; 16] {
     fields
 }
 
-/// In both orders every field in two of the four registers that hold a rank, read before and after
-/// two switches of the order. Between them these ranks decide winners, margins and openings.
+/// In both orders every field in two of the four registers that hold one, read before and after
+/// two switches of the order. Between them their ranks decide winners, margins and openings.
 fn mirror(random: &mut Random, limits: Limits) -> Vec<u8> {
     let mut script = Script::new(random, limits);
     for source in script.focus.clone() {
@@ -696,8 +714,7 @@ fn mirror(random: &mut Random, limits: Limits) -> Vec<u8> {
 /// The other order, or still the same.
 fn either_order(script: &mut Script, random: &mut Random) {
     if random.coin() {
-        let switched = !script.machine.priord;
-        script.set_priord(switched);
+        script.switch();
     }
 }
 
@@ -712,12 +729,17 @@ fn take_and_open(script: &mut Script) {
     }
 }
 
-/// A request of the rank that came through the mirror, against what is of that rank or beside it.
+/// The rank of a source, between its neighbours.
+fn beside(script: &Script, source: u32) -> [Rank; 3] {
+    let rank = script.machine.source_rank(source as usize);
+    [rank.lower(), rank, rank.higher()]
+}
+
+/// A request of the rank that a field has in either order, against what is of that rank or beside
+/// it.
 fn mirrored_rank(script: &mut Script, random: &mut Random, source: u32) {
     let count = script.count();
     let rival = (source + random.below(count - 1)) % count + 1;
-    let rank = script.machine.source(source as usize).rank;
-    let beside = [rank.saturating_sub(1), rank, (rank + 1).min(15)];
     script.set_enable(source, true);
     script.set_active(source, true);
     either_order(script, random);
@@ -726,9 +748,10 @@ fn mirrored_rank(script: &mut Script, random: &mut Random, source: u32) {
         0 => take_and_open(script),
         // One of them is beside the rank, the other no higher.
         1 => {
-            for bar in beside {
+            for place in 0..3 {
                 either_order(script, random);
-                let low = random.below(u32::from(bar) + 1) as u8;
+                let bar = beside(script, source)[place];
+                let low = random.rank(0, bar.0);
                 let swapped = random.coin();
                 script.set_threshold(if swapped { low } else { bar });
                 script.set_current(if swapped { bar } else { low });
@@ -737,28 +760,31 @@ fn mirrored_rank(script: &mut Script, random: &mut Random, source: u32) {
         }
         // Of equals the lower number wins, whichever order each was written in.
         2 => {
+            let [_, rank, _] = beside(script, source);
             script.request(rival, rank);
-            for near in beside {
+            for place in 0..3 {
                 either_order(script, random);
+                let near = beside(script, source)[place];
                 script.set_rank(rival, near);
                 script.capture();
                 script.read_claim();
             }
+            let [_, rank, _] = beside(script, source);
             script.set_rank(rival, rank);
+            either_order(script, random);
             take_and_open(script);
         }
         // Chained, or not, by rank and threshold.
         _ => {
-            script.set_threshold(0);
-            script.set_current(0);
+            script.lower_bars();
             script.take();
             if !script.machine.handlers.is_empty() {
                 script.open();
                 script.set_mask(0);
                 script.quiet(source);
-                either_order(script, random);
-                script.request(rival, random.pick(&[rank, rank, beside[0], beside[2]]));
-                script.set_threshold(random.pick(&[0, beside[0], rank]));
+                let [lower, rank, higher] = beside(script, source);
+                script.request(rival, random.pick(&[rank, rank, lower, higher]));
+                script.set_threshold(random.pick(&[Rank::LOWEST, lower, rank]));
                 script.chain();
                 script.read_claim();
                 script.unwind();
@@ -769,25 +795,345 @@ fn mirrored_rank(script: &mut Script, random: &mut Random, source: u32) {
     script.quiet(rival);
 }
 
+/// Registers hold fields: switches with no handler open, which turn every rank, and with handlers
+/// open, where they are refused.
+fn fields(random: &mut Random, limits: Limits) -> Vec<u8> {
+    let mut script = Script::new(random, limits);
+    if random.coin() {
+        script.set_base();
+    }
+    script.set_mask(1);
+    if random.coin() {
+        reversed_from_the_start(&mut script, random);
+    }
+    for _ in 0..random.between(2, 6) {
+        match random.below(6) {
+            0 => kept_fields(&mut script, random),
+            1 => captured_fields(&mut script, random),
+            2 => taken_in_both_orders(&mut script, random),
+            3 => chained_in_either_order(&mut script, random),
+            _ => nested_in_either_order(&mut script, random),
+        }
+        // Often the record ends with handlers still open.
+        if script.full() || random.chance(1, 8) {
+            break;
+        }
+        script.unwind();
+    }
+    match random.below(4) {
+        0 => script.audit(),
+        1 | 2 => end_reversed(&mut script, random),
+        _ => {}
+    }
+    finish(script)
+}
+
+/// Until threshold and current are written, both of rank 15, nothing is taken.
+fn reversed_from_the_start(script: &mut Script, random: &mut Random) {
+    let source = script.a_source();
+    script.set_priord(true);
+    script.read_fields(source);
+    script.set_enable(source, true);
+    script.set_active(source, true);
+    script.capture();
+    script.read_claim();
+    script.take();
+    // One of the two is not enough.
+    let ranks = [(); 2].map(|()| random.rank(0, 14));
+    if random.coin() {
+        script.set_threshold(ranks[0]);
+        script.take();
+        script.set_current(ranks[1]);
+    } else {
+        script.set_current(ranks[1]);
+        script.take();
+        script.set_threshold(ranks[0]);
+    }
+    take_and_open(script);
+}
+
+/// No handler open, no request, and an order that is often the reverse.
+fn settle(script: &mut Script, random: &mut Random) {
+    script.unwind();
+    hush(script);
+    script.set_priord(random.chance(2, 3));
+    script.set_mask(1);
+}
+
+/// Ends every request that could win in one order or the other.
+fn hush(script: &mut Script) {
+    for source in 1..=script.count() {
+        let state = script.machine.source(source as usize);
+        if state.enabled && state.pending() {
+            script.quiet(source);
+        }
+    }
+}
+
+/// Reads before and after one or two switches; what is held then decides a take, if it can.
+fn kept_fields(script: &mut Script, random: &mut Random) {
+    let source = script.a_source();
+    let fields = shuffled_fields(random);
+    if random.chance(3, 4) {
+        script.write_fields(source, [0, 1, 2, 3].map(|place| fields[place]));
+    }
+    script.read_fields(source);
+    script.set_enable(source, true);
+    script.set_active(source, random.chance(3, 4));
+    for _ in 0..random.between(1, 2) {
+        script.switch();
+        script.load(0x3000);
+        script.read_fields(source);
+        if random.coin() {
+            // The same order again.
+            script.set_priord(script.machine.priord);
+            script.read_fields(source);
+        }
+        take_and_open(script);
+        script.capture();
+        script.read_claim();
+    }
+}
+
+/// Captures with a winner, with none, and with a request of rank 0, in both orders.
+fn captured_fields(script: &mut Script, random: &mut Random) {
+    settle(script, random);
+    let source = script.a_source();
+    for _ in 0..random.between(2, 4) {
+        match random.below(3) {
+            0 => hush(script),
+            1 => script.request(source, Rank::LOWEST),
+            _ => {
+                let rank = script.a_rank();
+                script.request(source, rank);
+            }
+        }
+        script.capture();
+        script.read_claim();
+        if random.coin() {
+            script.switch();
+            script.read_claim();
+            script.capture();
+            script.read_claim();
+        }
+    }
+}
+
+/// Two requests on either side of threshold and current: each order takes one of them, with nothing
+/// written between but the order.
+fn taken_in_both_orders(script: &mut Script, random: &mut Random) {
+    settle(script, random);
+    let count = script.count();
+    let source = script.a_source();
+    let other = (source + random.below(count - 1)) % count + 1;
+    let bars = [(); 2].map(|()| random.between(1, 14));
+    let below = random.below(bars[0].min(bars[1]));
+    let above = random.between(bars[0].max(bars[1]) + 1, 15);
+    script.write_fields(source, [below, bars[0], random.below(16), bars[1]]);
+    script.store(4 * other, above);
+    for source in [source, other] {
+        script.set_enable(source, true);
+        script.set_active(source, true);
+    }
+    for _ in 0..random.between(2, 5) {
+        script.take();
+        script.read_claim();
+        if random.chance(1, 3) {
+            try_switch(script, random);
+        }
+        if random.chance(3, 4) {
+            script.open();
+            script.csr_read(MEICURPL);
+        }
+        if random.chance(1, 3) {
+            try_switch(script, random);
+        }
+        script.unwind();
+        script.switch();
+        script.csr_read(MEICURPL);
+    }
+}
+
+/// Sources of one rank, chained in one order.
+fn chained_in_either_order(script: &mut Script, random: &mut Random) {
+    settle(script, random);
+    script.lower_bars();
+    let rank = random.rank(2, 15);
+    for source in script.focus.clone() {
+        let off = random.chance(1, 6);
+        script.request(source, if off { rank.lower() } else { rank });
+    }
+    script.take();
+    if random.chance(3, 4) {
+        script.open();
+        script.set_mask(0);
+    }
+    for _ in 0..random.between(2, 6) {
+        let serving = script.machine.handlers.last().map(|top| top.source as u32);
+        if let Some(source) = serving.filter(|_| random.chance(3, 4)) {
+            script.quiet(source);
+        }
+        match random.below(6) {
+            0 => try_switch(script, random),
+            1 => chain_variants(script, random),
+            _ => {}
+        }
+        script.chain();
+        if random.coin() {
+            script.read_claim();
+        }
+    }
+}
+
+/// Handlers of rising ranks, up and down again. At every level the order cannot be changed.
+fn nested_in_either_order(script: &mut Script, random: &mut Random) {
+    settle(script, random);
+    script.lower_bars();
+    if random.chance(1, 4) {
+        script.set_current(random.rank(0, 3));
+    }
+    let levels = random.between(1, 5) as usize;
+    for rank in rising_ranks(random).into_iter().take(levels) {
+        let source = script.a_source();
+        script.request(source, rank);
+        script.take();
+        if random.coin() {
+            try_switch(script, random);
+        }
+        script.open();
+        script.csr_read(MEICURPL);
+        if random.coin() {
+            try_switch(script, random);
+        }
+    }
+    while !script.machine.handlers.is_empty() && !script.full() {
+        script.set_mask(0);
+        if random.chance(1, 4) {
+            chain_variants(script, random);
+        }
+        if random.chance(1, 3) {
+            try_switch(script, random);
+        }
+        script.give_back();
+        script.csr_read(MEICURPL);
+        if random.chance(1, 8) {
+            return;
+        }
+    }
+    let source = script.a_source();
+    script.switch();
+    script.read_fields(source);
+}
+
+/// Stores to mpiccfg and beside it, most with the bit of the other order.
+fn try_switch(script: &mut Script, random: &mut Random) {
+    let other = random.word() & !1 | u32::from(!script.machine.priord);
+    match random.below(10) {
+        0..=2 => script.switch(),
+        3 => script.store(0x3000, other),
+        // The order that it is.
+        4 => script.set_priord(script.machine.priord),
+        5 | 6 => script.store(random.between(0x3001, 0x3003), other),
+        7 | 8 => {
+            let far = 4 * random.between(1, 0x3FF);
+            script.store(0x3000 + random.pick(&[4, 4, 8, far]), other)
+        }
+        _ => script.store(random.pick(&[0xB000, 0xB001, 0xB004]), other),
+    };
+    match random.below(4) {
+        0 => {
+            script.load(0x3000);
+        }
+        1 => {
+            let source = script.a_source();
+            script.read_fields(source);
+        }
+        _ => {}
+    }
+}
+
+/// The last line in the reverse order: handlers open, or threshold and current as written.
+fn end_reversed(script: &mut Script, random: &mut Random) {
+    script.unwind();
+    hush(script);
+    script.reverse();
+    script.set_mask(1);
+    if random.chance(1, 3) {
+        let source = script.a_source();
+        script.request(source, random.rank(1, 15));
+        script.set_threshold(random.rank(0, 15));
+        script.set_current(random.rank(0, 15));
+        return;
+    }
+    let levels = random.between(1, 4) as usize;
+    for rank in rising_ranks(random).into_iter().take(levels) {
+        let source = script.a_source();
+        script.request(source, rank);
+        script.take();
+        script.open();
+    }
+    if random.coin() {
+        script.provoke();
+    }
+    if random.chance(1, 4) {
+        script.take();
+    }
+}
+
+/// Switches in every state, and after most of the accepted ones bars that leave room for takes.
+fn switches(random: &mut Random, limits: Limits) -> Vec<u8> {
+    let mut script = Script::new(random, limits);
+    for _ in 0..random.between(5, 80) {
+        let source = script.a_source();
+        match random.below(15) {
+            0 | 1 => {
+                let switched = script.switch().refusal == 0;
+                if switched && random.chance(2, 3) {
+                    script.lower_bars();
+                }
+            }
+            14 => {
+                script.take();
+            }
+            2 => try_switch(&mut script, random),
+            3 => script.read_fields(source),
+            4 => {
+                script.capture();
+                script.read_claim();
+            }
+            5 => {
+                let fields = [(); 4].map(|()| random.below(16));
+                script.write_fields(source, fields);
+            }
+            6 => script.unwind(),
+            7 => hush(&mut script),
+            _ => script.serve(),
+        }
+    }
+    if random.chance(1, 3) {
+        script.audit();
+    }
+    finish(script)
+}
+
 /// A request at, above and below threshold and current.
 fn thresholds(random: &mut Random, limits: Limits) -> Vec<u8> {
     let mut script = Script::new(random, limits);
     script.set_mask(1);
     if random.chance(1, 3) {
-        script.set_priord(true);
+        script.reverse();
     }
     for _ in 0..random.between(3, 30) {
         let source = script.a_source();
-        let rank = random.below(16) as u8;
-        script.request(source, rank);
+        script.request(source, random.rank(0, 15));
         let winner = script.machine.winner().1;
         for _ in 0..random.between(1, 3) {
             let bar = match random.below(5) {
-                0 => winner.saturating_sub(1),
+                0 => winner.lower(),
                 1 => winner,
-                2 => (winner + 1).min(15),
-                3 => 15,
-                _ => 0,
+                2 => winner.higher(),
+                3 => Rank::HIGHEST,
+                _ => Rank::LOWEST,
             };
             if random.chance(1, 3) {
                 script.set_current(bar);
@@ -852,7 +1198,7 @@ fn gateways(random: &mut Random, limits: Limits) -> Vec<u8> {
                 let (low, high) = (random.coin(), random.coin());
                 script.set_gateway(source, high, low);
                 script.set_enable(source, true);
-                script.set_rank(source, random.below(16) as u8);
+                script.set_rank(source, random.rank(0, 15));
                 script.capture();
                 script.read_claim();
             }
@@ -869,6 +1215,9 @@ fn gateways(random: &mut Random, limits: Limits) -> Vec<u8> {
 fn current(random: &mut Random, limits: Limits) -> Vec<u8> {
     let mut script = Script::new(random, limits);
     script.set_mask(1);
+    if random.chance(1, 3) {
+        script.reverse();
+    }
     for _ in 0..random.between(5, 60) {
         match random.below(6) {
             0 | 1 => {
@@ -877,8 +1226,10 @@ fn current(random: &mut Random, limits: Limits) -> Vec<u8> {
                 script.csr_read(MEICURPL);
             }
             2 => {
-                let reversed = random.coin();
-                script.set_priord(reversed);
+                script.set_priord(random.coin());
+                if random.coin() {
+                    script.set_threshold(Rank::LOWEST);
+                }
             }
             3 => {
                 script.take();
@@ -935,13 +1286,13 @@ fn mask(random: &mut Random, limits: Limits) -> Vec<u8> {
 /// Many pending sources of few ranks: the winner by rank, then by number.
 fn ties(random: &mut Random, limits: Limits) -> Vec<u8> {
     let mut script = Script::new(random, limits);
-    let high = random.between(1, 15);
-    let low = random.between(0, high);
+    let high = random.rank(1, 15);
+    let low = random.rank(0, high.0);
     let count = script.count();
     let step = random.between(1, 1 + count / 12);
     let mut source = random.between(1, step);
     while source <= count {
-        script.set_rank(source, random.pick(&[low, high]) as u8);
+        script.set_rank(source, random.pick(&[low, high]));
         if random.chance(3, 4) {
             script.set_enable(source, true);
         }
@@ -958,8 +1309,7 @@ fn ties(random: &mut Random, limits: Limits) -> Vec<u8> {
             }
             2 => {
                 let source = random.between(1, count);
-                let reverse = script.machine.field_of(high as u8);
-                script.store(4 * source, reverse);
+                script.set_rank(source, high);
                 script.set_enable(source, true);
             }
             _ => {
@@ -1031,16 +1381,18 @@ fn winners(random: &mut Random, limits: Limits) -> Vec<u8> {
         };
         let state = script.machine.source(source as usize).clone();
         match random.below(10) {
-            0 => script.set_rank(source, random.below(16) as u8),
+            0 => script.set_rank(source, random.rank(0, 15)),
             1 => script.set_enable(source, !state.enabled),
             2 => script.set_gateway(source, !state.edge, state.active_low),
             3 => script.set_gateway(source, state.edge, !state.active_low),
             4 => script.clear(source),
             5 => script.set_line(source, !state.line),
             6 => script.quiet(source),
-            7 => script.set_priord(random.coin()),
+            7 => {
+                script.set_priord(random.coin());
+            }
             8 => script.random_sample(),
-            _ => script.request(source, random.between(1, 15) as u8),
+            _ => script.request(source, random.rank(1, 15)),
         }
         script.capture();
         script.read_claim();
@@ -1082,7 +1434,7 @@ fn samples(random: &mut Random, limits: Limits) -> Vec<u8> {
     let count = script.count();
     for source in 1..=count {
         if random.coin() {
-            script.set_rank(source, random.below(16) as u8);
+            script.set_rank(source, random.rank(0, 15));
             script.set_enable(source, random.chance(7, 8));
         }
         if random.chance(1, 4) {
@@ -1105,6 +1457,9 @@ fn samples(random: &mut Random, limits: Limits) -> Vec<u8> {
 /// Bounds, counters and controls at their edges, and clocks, alone and within handlers.
 fn timers(random: &mut Random, limits: Limits) -> Vec<u8> {
     let mut script = Script::new(random, limits);
+    if random.chance(1, 4) {
+        script.reverse();
+    }
     if random.coin() {
         script.read_timers();
     }

@@ -8,6 +8,7 @@ pub mod machine;
 pub mod player;
 pub mod program;
 pub mod random;
+pub mod rank;
 pub mod record;
 pub mod script;
 pub mod text;

@@ -1,6 +1,7 @@
 //! The interrupt controller, its handlers, the internal timers, and the eleven events.
 
 use crate::event::{Action, Event};
+use crate::rank::{Field, Rank};
 use crate::timer::{timer_register, Timer};
 
 pub const MEIVT: u32 = 0xBC8;
@@ -15,7 +16,8 @@ pub const CSRS: [u32; 6] = [MEIVT, MEIPT, MEICPCT, MEICIDPL, MEICURPL, MEIHAP];
 /// One external source with its gateway.
 #[derive(Clone, Debug, Default, PartialEq, Eq)]
 pub struct Source {
-    pub rank: u8,
+    /// What meiplS holds.
+    pub field: Field,
     pub enabled: bool,
     /// Type 1: pending by the latch, not by the line.
     pub edge: bool,
@@ -37,18 +39,14 @@ impl Source {
             self.active()
         }
     }
-
-    pub fn eligible(&self) -> bool {
-        self.enabled && self.pending() && self.rank >= 1
-    }
 }
 
 #[derive(Clone, Debug, PartialEq, Eq)]
 pub struct Handler {
     pub source: usize,
-    pub rank: u8,
-    /// Current rank at the time of the take.
-    pub saved: u8,
+    pub rank: Rank,
+    /// Current's rank at the time of the take.
+    pub saved: Rank,
     pub opened: bool,
 }
 
@@ -59,9 +57,12 @@ pub struct Machine {
     pub priord: bool,
     pub base: u32,
     pub claim: usize,
-    pub threshold: u8,
-    pub claimed: u8,
-    pub current: u8,
+    /// What meipt holds.
+    pub threshold: Field,
+    /// What meicidpl holds.
+    pub claimed: Field,
+    /// What meicurpl holds.
+    pub current: Field,
     pub mask: bool,
     /// The uppermost handler is the last.
     pub handlers: Vec<Handler>,
@@ -94,6 +95,17 @@ fn require(yes: bool, refusal: u32) -> Result<(), u32> {
     }
 }
 
+/// Questions 10 and 11.
+fn admit_offset(offset: u32) -> Result<(), u32> {
+    require(offset < 0x8000, 10)?;
+    require(offset % 4 == 0, 11)
+}
+
+/// The priority order that a value stored to mpiccfg asks for.
+fn priord_of(value: u32) -> bool {
+    value & 1 != 0
+}
+
 fn is_csr(address: u32) -> bool {
     CSRS.contains(&address) || timer_register(address).is_some()
 }
@@ -111,9 +123,9 @@ impl Machine {
             priord: false,
             base: 0,
             claim: 0,
-            threshold: 0,
-            claimed: 0,
-            current: 0,
+            threshold: Field(0),
+            claimed: Field(0),
+            current: Field(0),
             mask: false,
             handlers: Vec::new(),
             timers: [Timer::power_on(), Timer::power_on()],
@@ -139,12 +151,12 @@ impl Machine {
 
     fn values_in_range(&self) -> bool {
         (2..=255).contains(&self.count())
-            && self.sources.iter().all(|source| source.rank <= 15)
+            && self.sources.iter().all(|source| source.field.sound())
             && self.base % 1024 == 0
             && self.claim <= self.count()
-            && self.threshold <= 15
-            && self.claimed <= 15
-            && self.current <= 15
+            && self.threshold.sound()
+            && self.claimed.sound()
+            && self.current.sound()
             && self.handlers.len() <= 15
             && self.timers.iter().all(Timer::sound)
     }
@@ -161,7 +173,7 @@ impl Machine {
             None => return true,
         };
         let each = self.handlers.iter().all(|handler| {
-            (1..=self.count()).contains(&handler.source) && (1..=15).contains(&handler.rank)
+            (1..=self.count()).contains(&handler.source) && (1..=15).contains(&handler.rank.0)
         });
         let lowest = &self.handlers[0];
         let pairs = self.handlers.windows(2).all(|pair| {
@@ -170,16 +182,48 @@ impl Machine {
         let level = if top.opened { top.rank } else { top.saved };
         each && lowest.saved < lowest.rank
             && pairs
-            && self.current == level
+            && self.current_rank() == level
             && (!self.mask || top.opened)
     }
 
+    /// The rank of a field in the priority order of now.
+    pub fn rank(&self, field: Field) -> Rank {
+        field.rank(self.priord)
+    }
+
+    /// The field of a rank in the priority order of now.
+    pub fn field(&self, rank: Rank) -> Field {
+        rank.field(self.priord)
+    }
+
+    pub fn source_rank(&self, number: usize) -> Rank {
+        self.rank(self.source(number).field)
+    }
+
+    pub fn threshold_rank(&self) -> Rank {
+        self.rank(self.threshold)
+    }
+
+    pub fn claimed_rank(&self) -> Rank {
+        self.rank(self.claimed)
+    }
+
+    pub fn current_rank(&self) -> Rank {
+        self.rank(self.current)
+    }
+
+    pub fn eligible(&self, number: usize) -> bool {
+        let source = self.source(number);
+        source.enabled && source.pending() && self.source_rank(number) >= Rank(1)
+    }
+
     /// The eligible source of highest rank, of equals the lowest number, and its rank; else 0, 0.
-    pub fn winner(&self) -> (usize, u8) {
-        let mut best = (0, 0);
-        for (place, source) in self.sources.iter().enumerate() {
-            if source.eligible() && source.rank > best.1 {
-                best = (place + 1, source.rank);
+    pub fn winner(&self) -> (usize, Rank) {
+        let mut best = (0, Rank::LOWEST);
+        for number in 1..=self.count() {
+            let rank = self.source_rank(number);
+            if self.eligible(number) && rank > best.1 {
+                best = (number, rank);
             }
         }
         best
@@ -192,22 +236,8 @@ impl Machine {
     }
 
     pub fn margin(&self) -> i32 {
-        i32::from(self.winner().1) - i32::from(self.threshold.max(self.current))
-    }
-
-    /// The register field that shows a rank.
-    pub fn field_of(&self, rank: u8) -> u32 {
-        u32::from(if self.priord { 15 - rank } else { rank })
-    }
-
-    /// The rank that a written value gives; bits above the field are dropped.
-    pub fn rank_of(&self, value: u32) -> u8 {
-        let field = (value & 15) as u8;
-        if self.priord {
-            15 - field
-        } else {
-            field
-        }
+        let bar = self.threshold_rank().max(self.current_rank());
+        i32::from(self.winner().1 .0) - i32::from(bar.0)
     }
 
     pub fn meihap(&self) -> u32 {
@@ -232,13 +262,15 @@ impl Machine {
         Ok(answer)
     }
 
-    /// Questions 9 to 21.
+    /// Questions 9 to 21, and 24.
     fn admit(&self, action: Action) -> Result<(), u32> {
         match action {
             Action::Sample { word, .. } => require(word <= 7, 9),
-            Action::Load { offset } | Action::Store { offset, .. } => {
-                require(offset < 0x8000, 10)?;
-                require(offset % 4 == 0, 11)
+            Action::Load { offset } => admit_offset(offset),
+            Action::Store { offset, value } => {
+                admit_offset(offset)?;
+                let switches = self.switches(offset, value);
+                require(!switches || self.handlers.is_empty(), 24)
             }
             Action::CsrRead { address } => require(is_csr(address), 12),
             Action::CsrWrite { address, .. } => {
@@ -329,9 +361,14 @@ impl Machine {
         }
     }
 
+    /// Whether a store would change the priority order.
+    fn switches(&self, offset: u32, value: u32) -> bool {
+        matches!(self.register(offset), Register::Configuration) && priord_of(value) != self.priord
+    }
+
     fn load(&self, offset: u32) -> u32 {
         match self.register(offset) {
-            Register::Priority(number) => self.field_of(self.source(number).rank),
+            Register::Priority(number) => self.source(number).field.into(),
             Register::Pending(word) => self.pending_word(word),
             Register::Enable(number) => u32::from(self.source(number).enabled),
             Register::Configuration => u32::from(self.priord),
@@ -345,12 +382,9 @@ impl Machine {
 
     fn store(&mut self, offset: u32, value: u32) {
         match self.register(offset) {
-            Register::Priority(number) => {
-                let rank = self.rank_of(value);
-                self.source_mut(number).rank = rank;
-            }
+            Register::Priority(number) => self.source_mut(number).field = Field::written(value),
             Register::Enable(number) => self.source_mut(number).enabled = value & 1 != 0,
-            Register::Configuration => self.priord = value & 1 != 0,
+            Register::Configuration => self.priord = priord_of(value),
             Register::GatewayControl(number) => {
                 let source = self.source_mut(number);
                 source.edge = value & 2 != 0;
@@ -375,9 +409,9 @@ impl Machine {
     fn read_csr(&self, address: u32) -> u32 {
         match address {
             MEIVT => self.base,
-            MEIPT => self.field_of(self.threshold),
-            MEICIDPL => self.field_of(self.claimed),
-            MEICURPL => self.field_of(self.current),
+            MEIPT => self.threshold.into(),
+            MEICIDPL => self.claimed.into(),
+            MEICURPL => self.current.into(),
             MEIHAP => self.meihap(),
             _ => match timer_register(address) {
                 Some((timer, register)) => self.timers[timer].read(register),
@@ -389,10 +423,12 @@ impl Machine {
     fn write_csr(&mut self, address: u32, value: u32) {
         match address {
             MEIVT => self.base = value - value % 1024,
-            MEIPT => self.threshold = self.rank_of(value),
-            MEICPCT => self.capture(),
-            MEICIDPL => self.claimed = self.rank_of(value),
-            MEICURPL => self.current = self.rank_of(value),
+            MEIPT => self.threshold = Field::written(value),
+            MEICPCT => {
+                self.capture();
+            }
+            MEICIDPL => self.claimed = Field::written(value),
+            MEICURPL => self.current = Field::written(value),
             _ => {
                 if let Some((timer, register)) = timer_register(address) {
                     self.timers[timer].write(register, value);
@@ -401,16 +437,20 @@ impl Machine {
         }
     }
 
-    fn capture(&mut self) {
-        (self.claim, self.claimed) = self.winner();
+    /// Sets claim and claimed from the winner, and gives the winner and its rank.
+    fn capture(&mut self) -> (usize, Rank) {
+        let (source, rank) = self.winner();
+        self.claim = source;
+        self.claimed = self.field(rank);
+        (source, rank)
     }
 
     fn take(&mut self) -> u32 {
-        self.capture();
+        let (source, rank) = self.capture();
         self.handlers.push(Handler {
-            source: self.claim,
-            rank: self.claimed,
-            saved: self.current,
+            source,
+            rank,
+            saved: self.current_rank(),
             opened: false,
         });
         self.mask = false;
@@ -423,15 +463,15 @@ impl Machine {
             None => return 0,
         };
         top.opened = true;
-        self.current = top.rank;
+        let rank = top.rank;
+        self.current = self.field(rank);
         self.mask = true;
-        u32::from(self.current)
+        rank.into()
     }
 
     fn chain(&mut self) -> u32 {
-        self.capture();
-        let (source, rank) = (self.claim, self.claimed);
-        let above = rank > self.threshold;
+        let (source, rank) = self.capture();
+        let above = rank > self.threshold_rank();
         match self.handlers.last_mut() {
             Some(top) if top.rank == rank && above => {
                 top.source = source;
@@ -443,7 +483,7 @@ impl Machine {
 
     fn give_back(&mut self) -> u32 {
         if let Some(top) = self.handlers.pop() {
-            self.current = top.saved;
+            self.current = self.field(top.saved);
         }
         self.mask = true;
         self.handlers.len() as u32

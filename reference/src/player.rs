@@ -10,7 +10,7 @@ use std::fmt::Write;
 pub struct Tally {
     pub events: u64,
     /// How often each refusal number was printed.
-    pub refusals: [u64; 24],
+    pub refusals: [u64; 25],
     /// Accepted events by kind.
     pub accepted: [u64; KINDS as usize],
     pub chains_served: u64,
@@ -74,7 +74,7 @@ fn play_record(record: &Record, text: &mut String, tally: &mut Tally) {
         }
         tally.deepest = tally.deepest.max(machine.handlers.len());
     }
-    let (open, level) = (machine.handlers.len(), machine.current);
+    let (open, level) = (machine.handlers.len(), machine.current_rank().0);
     line(
         text,
         format_args!("end open {open} level {level} margin {}", machine.margin()),

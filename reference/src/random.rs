@@ -1,5 +1,7 @@
 //! A small generator of pseudo-random numbers (splitmix64).
 
+use crate::rank::Rank;
+
 #[derive(Clone, Debug)]
 pub struct Random {
     state: u64,
@@ -37,6 +39,11 @@ impl Random {
     /// A number from `low` to `high`, both included.
     pub fn between(&mut self, low: u32, high: u32) -> u32 {
         low + self.below(high - low + 1)
+    }
+
+    /// A rank from `low` to `high`, both included.
+    pub fn rank(&mut self, low: u8, high: u8) -> Rank {
+        Rank(self.between(low.into(), high.into()) as u8)
     }
 
     /// Yes in `part` of `whole` cases.

@@ -4,6 +4,7 @@
 use crate::event::*;
 use crate::machine::*;
 use crate::random::Random;
+use crate::rank::Rank;
 use crate::record::{Limits, Record};
 use crate::timer::*;
 
@@ -222,8 +223,14 @@ impl Script {
         }
     }
 
-    pub fn set_rank(&mut self, source: u32, rank: u8) {
-        let value = self.litter(self.machine.field_of(rank), 4);
+    /// The field of a rank in the order of now, sometimes with bits above it.
+    fn value_of(&mut self, rank: Rank) -> u32 {
+        let field = self.machine.field(rank);
+        self.litter(field.into(), 4)
+    }
+
+    pub fn set_rank(&mut self, source: u32, rank: Rank) {
+        let value = self.value_of(rank);
         self.store(4 * source, value);
     }
 
@@ -246,23 +253,46 @@ impl Script {
         self.store(0x5000 + 4 * source, value);
     }
 
-    pub fn set_priord(&mut self, reversed: bool) {
+    pub fn set_priord(&mut self, reversed: bool) -> Outcome {
         let value = self.litter(u32::from(reversed), 1);
-        self.store(0x3000, value);
+        self.store(0x3000, value)
     }
 
-    pub fn set_threshold(&mut self, rank: u8) {
-        let value = self.litter(self.machine.field_of(rank), 4);
+    /// Asks for the other order, which is refused while a handler is open.
+    pub fn switch(&mut self) -> Outcome {
+        let other = !self.machine.priord;
+        self.set_priord(other)
+    }
+
+    pub fn set_threshold(&mut self, rank: Rank) {
+        let value = self.value_of(rank);
         self.csr_write(MEIPT, value);
     }
 
-    pub fn set_current(&mut self, rank: u8) -> Outcome {
-        let value = self.litter(self.machine.field_of(rank), 4);
+    pub fn set_claimed(&mut self, rank: Rank) {
+        let value = self.value_of(rank);
+        self.csr_write(MEICIDPL, value);
+    }
+
+    pub fn set_current(&mut self, rank: Rank) -> Outcome {
+        let value = self.value_of(rank);
         self.csr_write(MEICURPL, value)
     }
 
-    /// Writes a field to each of the registers that hold a rank: meiplS of a source, meipt,
-    /// meicidpl, meicurpl.
+    /// Threshold and current to the lowest rank. After a switch they may be too high for a take.
+    pub fn lower_bars(&mut self) {
+        self.set_threshold(Rank::LOWEST);
+        self.set_current(Rank::LOWEST);
+    }
+
+    /// The reverse order, and bars that leave room for takes; refused while a handler is open.
+    pub fn reverse(&mut self) {
+        self.set_priord(true);
+        self.lower_bars();
+    }
+
+    /// Writes a field to each of the registers that hold one: meiplS of a source, meipt, meicidpl,
+    /// meicurpl.
     pub fn write_fields(&mut self, source: u32, fields: [u32; 4]) {
         let [own, threshold, claimed, current] = fields.map(|field| self.litter(field, 4));
         self.store(4 * source, own);
@@ -271,7 +301,7 @@ impl Script {
         self.csr_write(MEICURPL, current);
     }
 
-    /// Reads the registers that hold a rank, meiplS of one source.
+    /// Reads the registers that hold a field, meiplS of one source.
     pub fn read_fields(&mut self, source: u32) {
         self.load(4 * source);
         for address in [MEIPT, MEICIDPL, MEICURPL] {
@@ -346,18 +376,19 @@ impl Script {
     }
 
     /// A rank, often one beside those that the machine compares with.
-    pub fn a_rank(&mut self) -> u8 {
+    pub fn a_rank(&mut self) -> Rank {
+        let machine = &self.machine;
         let near = match self.random.below(6) {
-            0 => self.machine.threshold,
-            1 => self.machine.current,
-            2 => self.machine.handlers.last().map_or(1, |top| top.rank),
-            3 => self.machine.winner().1,
-            _ => return self.random.below(16) as u8,
+            0 => machine.threshold_rank(),
+            1 => machine.current_rank(),
+            2 => machine.handlers.last().map_or(Rank(1), |top| top.rank),
+            3 => machine.winner().1,
+            _ => return self.random.rank(0, 15),
         };
         match self.random.below(3) {
-            0 => near.saturating_sub(1),
+            0 => near.lower(),
             1 => near,
-            _ => (near + 1).min(15),
+            _ => near.higher(),
         }
     }
 
@@ -432,7 +463,7 @@ impl Script {
     }
 
     /// Enables a source, ranks it and makes it pending.
-    pub fn request(&mut self, source: u32, rank: u8) {
+    pub fn request(&mut self, source: u32, rank: Rank) {
         self.set_rank(source, rank);
         self.set_enable(source, true);
         self.set_active(source, true);
@@ -440,13 +471,14 @@ impl Script {
 
     /// Makes a source win above threshold and current, if a rank is left for it.
     pub fn provoke(&mut self) {
-        let bar = self.machine.threshold.max(self.machine.current);
-        if bar == 15 {
-            if self.machine.current < 15 {
-                let rank = self.random.below(15) as u8;
+        let current = self.machine.current_rank();
+        let bar = self.machine.threshold_rank().max(current);
+        if bar == Rank::HIGHEST {
+            if current < Rank::HIGHEST {
+                let rank = self.random.rank(0, 14);
                 self.set_threshold(rank);
             } else if self.machine.handlers.is_empty() {
-                let rank = self.random.below(8) as u8;
+                let rank = self.random.rank(0, 7);
                 self.set_current(rank);
             } else {
                 let source = self.machine.winner().0 as u32;
@@ -458,9 +490,9 @@ impl Script {
         }
         let source = self.a_source();
         let rank = if self.random.chance(2, 3) {
-            bar + 1
+            bar.higher()
         } else {
-            self.random.between(u32::from(bar) + 1, 15) as u8
+            self.random.rank(bar.higher().0, 15)
         };
         self.request(source, rank);
     }
@@ -577,8 +609,10 @@ impl Script {
             }
             12 | 13 => self.clear(source),
             14 => {
-                let reversed = self.random.coin();
-                self.set_priord(reversed);
+                // With a handler open the order must stay.
+                let drawn = self.random.coin();
+                let idle = self.machine.handlers.is_empty();
+                self.set_priord(if idle { drawn } else { self.machine.priord });
             }
             _ => {
                 let (word, value) = (self.random.below(8), self.random.word());
@@ -598,15 +632,12 @@ impl Script {
             0 | 1 => self.set_base(),
             2..=4 => self.set_threshold(rank),
             5 | 6 => self.capture(),
-            7 => {
-                let value = self.litter(self.machine.field_of(rank), 4);
-                self.csr_write(MEICIDPL, value);
-            }
+            7 => self.set_claimed(rank),
             8 => {
-                self.set_current(rank.min(8));
+                self.set_current(rank.min(Rank(8)));
             }
             // Keeps the bar low, so that takes stay frequent.
-            _ => self.set_threshold(0),
+            _ => self.set_threshold(Rank::LOWEST),
         }
     }
 
@@ -682,7 +713,7 @@ impl Script {
     pub fn refused_step(&mut self) {
         let value = self.random.word();
         let no_csrs = [0x7D1, 0x7D8, 0x17D2, 0xBC7, 0xBCD, 0x1BCC, 0xFC9];
-        match self.random.below(13) {
+        match self.random.below(14) {
             0 => {
                 let word = self.random.pick(&[8, 9, 16, 0x100, 0x8000, 0xFFFF]);
                 self.sample(word, value);
@@ -726,6 +757,9 @@ impl Script {
                     .random
                     .pick(&[2, 3, 0x100, 0x10000, 0x8000_0001, u32::MAX, value]);
                 self.set_mask(value);
+            }
+            12 => {
+                self.switch();
             }
             _ => {
                 self.set_mask(1);

@@ -4,14 +4,17 @@ mod common;
 
 use common::*;
 use reference::machine::*;
+use reference::rank::{Field, Rank};
 
 #[test]
-fn k1_rank_5_reads_10_in_reverse_order() {
+fn k1_field_5_reads_5_and_is_rank_10_in_reverse_order() {
     let mut machine = machine(4);
     machine.store(4, 5);
+    assert_eq!(machine.source_rank(1), Rank(5));
     machine.store(0x3000, 1);
-    assert_eq!(machine.load(4), answer(10));
-    assert_eq!(machine.source(1).rank, 5);
+    assert_eq!(machine.load(4), answer(5));
+    assert_eq!(machine.source(1).field, Field(5));
+    assert_eq!(machine.source_rank(1), Rank(10));
 }
 
 #[test]
@@ -21,9 +24,18 @@ fn k2_field_15_in_reverse_order_is_never_eligible() {
     machine.prepare(1, 15);
     machine.sample(0, 2);
     machine.set_mask(1);
+    // Threshold and current are of rank 0 too.
+    machine.csr_write(MEIPT, 15);
+    machine.csr_write(MEICURPL, 15);
     assert_eq!(machine.load(0x1000), answer(2));
-    assert_eq!(machine.winner(), (0, 0));
+    assert_eq!(machine.winner(), (0, Rank(0)));
     assert_eq!(machine.take(), refused(16));
+    // Switched back it is of rank 15.
+    machine.store(0x3000, 0);
+    assert_eq!(machine.winner(), (1, Rank(15)));
+    machine.csr_write(MEIPT, 0);
+    machine.csr_write(MEICURPL, 0);
+    assert_eq!(machine.take(), answer(4));
 }
 
 #[test]
@@ -32,9 +44,9 @@ fn k3_equals_go_to_the_lower_number() {
     machine.prepare(2, 5);
     machine.prepare(3, 5);
     machine.sample(0, 0b1100);
-    assert_eq!(machine.winner(), (2, 5));
+    assert_eq!(machine.winner(), (2, Rank(5)));
     machine.store(12, 6);
-    assert_eq!(machine.winner(), (3, 6));
+    assert_eq!(machine.winner(), (3, Rank(6)));
 }
 
 #[test]

@@ -85,6 +85,7 @@ fn its_own_player_is_alike() {
     assert!(text.contains("\nkind 9 (set mask): accepted "));
     assert!(text.contains("\nkind 10 (clock): accepted "));
     assert!(!text.contains("\nrefusal 22: ") && !text.contains("\nrefusal 23: "));
+    assert!(text.contains("\nrefusal 24: "));
 }
 
 #[test]

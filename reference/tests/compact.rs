@@ -384,7 +384,7 @@ fn every_refusal_of_the_compact_player_occurs() {
             exact += u64::from(record.sources == 63 && events == 500);
         }
     }
-    for number in [1, 2, 3, 4, 6, 7].into_iter().chain(9..=23) {
+    for number in [1, 2, 3, 4, 6, 7].into_iter().chain(9..=24) {
         let times = all.refusals[number];
         assert!(times >= 20, "refusal {number}: {times}");
     }

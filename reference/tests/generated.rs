@@ -43,7 +43,7 @@ fn every_refusal_of_a_player_occurs() {
     for index in 0..RECORDS {
         all.add(&player::play(&generate(1, index, BOARD).bytes, BOARD).1);
     }
-    for number in [1, 2, 3, 4, 6, 7].into_iter().chain(9..=21) {
+    for number in [1, 2, 3, 4, 6, 7, 24].into_iter().chain(9..=21) {
         assert!(all.refusals[number] > 0, "refusal {number}");
     }
     // The player's arrays hold any record, and its machine is sound. It takes every N and n that

@@ -7,6 +7,7 @@ use reference::event::*;
 use reference::generate::FAMILIES;
 use reference::machine::*;
 use reference::random::Random;
+use reference::rank::{Field, Rank};
 use reference::record::{self, Record, BOARD};
 use std::collections::BTreeMap;
 
@@ -21,12 +22,12 @@ fn pairs() -> impl Iterator<Item = (u32, u32)> {
     (0..2).flat_map(|priord| (0..16).map(move |field| (priord, field)))
 }
 
-/// One of the four registers that hold a rank, meiplS for source 3.
+/// One of the four registers that hold a field, meiplS for source 3.
 struct Register {
     name: &'static str,
     write: fn(&mut Machine, u32) -> Outcome,
     read: fn(&mut Machine) -> Outcome,
-    rank: fn(&Machine) -> u8,
+    rank: fn(&Machine) -> Rank,
 }
 
 const REGISTERS: [Register; 4] = [
@@ -34,25 +35,25 @@ const REGISTERS: [Register; 4] = [
         name: "meipl3",
         write: |machine, value| machine.store(12, value),
         read: |machine| machine.load(12),
-        rank: |machine| machine.source(3).rank,
+        rank: |machine| machine.source_rank(3),
     },
     Register {
         name: "meipt",
         write: |machine, value| machine.csr_write(0xBC9, value),
         read: |machine| machine.csr_read(0xBC9),
-        rank: |machine| machine.threshold,
+        rank: |machine| machine.threshold_rank(),
     },
     Register {
         name: "meicidpl",
         write: |machine, value| machine.csr_write(0xBCB, value),
         read: |machine| machine.csr_read(0xBCB),
-        rank: |machine| machine.claimed,
+        rank: |machine| machine.claimed_rank(),
     },
     Register {
         name: "meicurpl",
         write: |machine, value| machine.csr_write(0xBCC, value),
         read: |machine| machine.csr_read(0xBCC),
-        rank: |machine| machine.current,
+        rank: |machine| machine.current_rank(),
     },
 ];
 
@@ -76,21 +77,25 @@ fn the_closed_form_is_the_choice_and_its_own_inverse() {
         let choice = if priord == 0 { field } else { 15 - field };
         assert_eq!(mirrored(priord, field), choice);
         assert_eq!(mirrored(priord, mirrored(priord, field)), field);
+        // Both conversions are this form.
+        let (order, number) = (priord == 1, field as u8);
+        assert_eq!(u32::from(Field(number).rank(order)), choice);
+        assert_eq!(u32::from(Rank(number).field(order)), choice);
     }
 }
 
 #[test]
-fn a_written_field_reads_back_and_holds_the_rank_of_the_closed_form() {
+fn a_written_field_reads_back_and_has_the_rank_of_the_closed_form() {
     for (priord, field) in pairs() {
         for litter in [0, 0x10, 0x8000_0000, 0xFFFF_FFF0] {
             for (place, register) in REGISTERS.iter().enumerate() {
                 let mut machine = ordered(priord);
                 assert_eq!((register.write)(&mut machine, litter | field), ACCEPTED);
                 check(&mut machine, register, field, mirrored(priord, field));
-                // The other three keep rank 0.
+                // The other three keep field 0.
                 for (other, register) in REGISTERS.iter().enumerate() {
                     if other != place {
-                        check(&mut machine, register, mirrored(priord, 0), 0);
+                        check(&mut machine, register, 0, mirrored(priord, 0));
                     }
                 }
             }
@@ -113,23 +118,15 @@ fn four_fields_at_once_keep_apart() {
 }
 
 #[test]
-fn a_switch_mirrors_what_is_read_and_leaves_the_rank() {
+fn a_switch_leaves_what_is_read_and_mirrors_the_rank() {
     for (priord, field) in pairs() {
         for register in &REGISTERS {
             let mut machine = ordered(priord);
             (register.write)(&mut machine, field);
-            let rank = mirrored(priord, field);
             // Switched, the same again, back.
             for now in [1 - priord, 1 - priord, priord] {
                 assert_eq!(machine.store(0x3000, now), ACCEPTED);
-                let shown = if now == priord {
-                    field
-                } else {
-                    mirrored(1, field)
-                };
-                check(&mut machine, register, shown, rank);
-                // A rank's field is the same form of the rank.
-                assert_eq!(shown, mirrored(now, rank));
+                check(&mut machine, register, field, mirrored(now, field));
             }
         }
     }
@@ -138,13 +135,17 @@ fn a_switch_mirrors_what_is_read_and_leaves_the_rank() {
 #[test]
 fn ranks_through_the_mirror_decide_margin_take_and_open() {
     for (priord, field) in pairs() {
-        let rank = mirrored(priord, field);
         for now in [0, 1] {
             let mut machine = ordered(priord);
             machine.prepare(3, field);
             machine.sample(0, 0b1000);
             machine.set_mask(1);
             machine.store(0x3000, now);
+            let rank = mirrored(now, field);
+            let bar = mirrored(now, 0);
+            assert_eq!(machine.query_margin(), Ok(rank as i32 - bar as i32));
+            machine.csr_write(MEIPT, mirrored(now, 0));
+            machine.csr_write(MEICURPL, mirrored(now, 0));
             assert_eq!(machine.query_margin(), Ok(rank as i32));
             for bar in 0..16 {
                 for address in [MEIPT, MEICURPL] {
@@ -157,9 +158,9 @@ fn ranks_through_the_mirror_decide_margin_take_and_open() {
                         continue;
                     }
                     assert_eq!(machine.take(), answer(12));
-                    assert_eq!(machine.csr_read(MEICIDPL), answer(mirrored(now, rank)));
+                    assert_eq!(machine.csr_read(MEICIDPL), answer(field));
                     assert_eq!(machine.open(), answer(rank));
-                    assert_eq!(machine.csr_read(MEICURPL), answer(mirrored(now, rank)));
+                    assert_eq!(machine.csr_read(MEICURPL), answer(field));
                 }
             }
         }
@@ -167,9 +168,10 @@ fn ranks_through_the_mirror_decide_margin_take_and_open() {
 }
 
 #[test]
-fn equal_ranks_written_in_either_order_tie() {
+fn equal_fields_written_in_either_order_tie() {
     for (priord, field) in pairs() {
-        let rank = mirrored(priord, field);
+        // The rank in the other order.
+        let rank = mirrored(1 - priord, field);
         if rank == 0 {
             continue;
         }
@@ -263,8 +265,7 @@ fn read_thrice(record: &Record) -> Vec<(usize, u32, u32)> {
             held.insert(key, written);
         } else if let Some(written) = held.get_mut(&key) {
             let own = written.priord == priord;
-            let shown = mirrored(u32::from(!own), written.field);
-            assert_eq!(outcome.answer, shown);
+            assert_eq!(outcome.answer, written.field);
             if own == (written.reads % 2 == 0) && written.reads < 3 {
                 written.reads += 1;
                 if written.reads == 3 {
@@ -317,14 +318,14 @@ fn the_family_writes_bits_that_are_dropped() {
 /// What the captures, takes, opens and chains of some records met.
 #[derive(Default)]
 struct Met {
-    /// Takes by the present order and the one that the winner's rank was written in.
+    /// Takes by the present order and the one that the winner's field was written in.
     takes: [[u32; 2]; 2],
     /// Opens by order and answer.
     opens: [[u32; 16]; 2],
     /// Takes, refused or not, by order, by the higher of threshold and current, and by where that
     /// is: just below the winner's rank, at it, or just above.
     bars: [[[u32; 3]; 2]; 2],
-    /// Ties at captures by order, the two ranks written in one order or in both.
+    /// Ties at captures by order, the two fields written in one order or in both.
     ties: [[u32; 2]; 2],
     /// Chains by order, answered by 0 or not.
     chains: [[u32; 2]; 2],
@@ -351,9 +352,10 @@ fn met(records: &[Record]) -> Met {
                         assert_ne!(outcome.answer, 0);
                         met.takes[priord][written_in[winner]] += 1;
                     }
-                    let by_current = usize::from(before.current > before.threshold);
+                    let (current, threshold) = (before.current_rank(), before.threshold_rank());
+                    let by_current = usize::from(current > threshold);
                     let margin = before.margin();
-                    if before.current != before.threshold && margin.abs() <= 1 && rank > 0 {
+                    if current != threshold && margin.abs() <= 1 && winner > 0 {
                         met.bars[priord][by_current][(1 - margin) as usize] += 1;
                     }
                 }
@@ -361,8 +363,7 @@ fn met(records: &[Record]) -> Met {
                 (CHAIN, _) => met.chains[priord][usize::from(outcome.answer != 0)] += 1,
                 (CSR_WRITE, MEICPCT) => {
                     for number in winner + 1..=before.count() {
-                        let source = before.source(number);
-                        if source.eligible() && source.rank == rank {
+                        if before.eligible(number) && before.source_rank(number) == rank {
                             let apart = written_in[number] != written_in[winner];
                             met.ties[priord][usize::from(apart)] += 1;
                         }
@@ -377,7 +378,7 @@ fn met(records: &[Record]) -> Met {
 
 #[test]
 fn ranks_through_the_mirror_decide_in_the_family() {
-    let met = met(&family(60));
+    let met = met(&family(80));
     let enough = |times: &[u32], least| times.iter().all(|&times| times >= least);
     for priord in 0..2 {
         assert!(enough(&met.takes[priord], 50), "{:?}", met.takes);

@@ -5,6 +5,7 @@ mod common;
 use common::*;
 use reference::event::CLOCK;
 use reference::machine::*;
+use reference::rank::{Field, Rank};
 use reference::record::{self, lay_out, Refusal, BOARD};
 
 fn reading(bytes: &[u8]) -> Option<(u32, usize)> {
@@ -105,22 +106,27 @@ fn records_6_and_7_with_their_places() {
 #[test]
 fn event_8_comes_first() {
     let mut unsound = machine(4);
-    unsound.current = 16;
+    unsound.current = Field(16);
     assert_eq!(unsound.act(0xFFFF, 0, 0), refused(8));
     assert_eq!(unsound.query_margin(), Err(8));
-    let changes: [fn(&mut Machine); 17] = [
+    let changes: [fn(&mut Machine); 21] = [
         |machine| machine.sources.clear(),
-        |machine| machine.sources[0].rank = 16,
+        |machine| machine.sources[0].field = Field(16),
+        |machine| machine.sources[3].field = Field(255),
         |machine| machine.sources[1].line = true,
         |machine| machine.sources[2].active_low = true,
         |machine| machine.sources[3].latch = false,
         |machine| machine.base = 512,
         |machine| machine.claim = 5,
-        |machine| machine.threshold = 16,
-        |machine| machine.claimed = 16,
-        |machine| machine.current = 4,
+        |machine| machine.threshold = Field(16),
+        |machine| machine.claimed = Field(16),
+        |machine| machine.current = Field(4),
+        |machine| machine.current = Field(16),
+        // Current's field is now of another rank than the handler.
+        |machine| machine.priord = true,
         |machine| machine.handlers[0].source = 5,
-        |machine| machine.handlers[0].saved = 5,
+        |machine| machine.handlers[0].rank = Rank(16),
+        |machine| machine.handlers[0].saved = Rank(5),
         |machine| machine.handlers[0].opened = false,
         |machine| machine.handlers.push(machine.handlers[0].clone()),
         |machine| machine.timers[0].control = 8,
@@ -195,6 +201,21 @@ fn events_15_to_21() {
 }
 
 #[test]
+fn event_24() {
+    assert_eq!(machine(4).store(0x3000, 1), ACCEPTED);
+    for mut machine in [taken(), opened()] {
+        assert_eq!(machine.store(0x3000, 1), refused(24));
+        assert_eq!(machine.store(0x3000, 2), ACCEPTED);
+        assert_eq!(machine.store(0x3002, 1), refused(11));
+        assert_eq!(machine.store(0xB000, 1), refused(10));
+        assert_eq!(machine.store(0x3004, 1), ACCEPTED);
+        machine.set_mask(0);
+        assert_eq!(machine.give_back(), ACCEPTED);
+        assert_eq!(machine.store(0x3000, 1), ACCEPTED);
+    }
+}
+
+#[test]
 fn a_chain_that_serves_nothing_still_captures() {
     let mut machine = opened();
     machine.prepare(2, 6);
@@ -212,7 +233,7 @@ fn a_chain_that_serves_nothing_still_captures() {
     machine.csr_write(MEIPT, 4);
     assert_eq!(machine.chain(), answer(8));
     assert_eq!(machine.give_back(), ACCEPTED);
-    assert_eq!((machine.mask, machine.current), (true, 0));
+    assert_eq!((machine.mask, machine.current_rank()), (true, Rank(0)));
 }
 
 #[test]
@@ -222,5 +243,5 @@ fn a_handler_may_return_unopened() {
     assert_eq!(machine.take(), answer(4));
     assert_eq!(machine.chain(), answer(4));
     assert_eq!(machine.give_back(), answer(1));
-    assert_eq!((machine.mask, machine.current), (true, 5));
+    assert_eq!((machine.mask, machine.current_rank()), (true, Rank(5)));
 }

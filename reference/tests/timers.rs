@@ -318,6 +318,7 @@ fn other_events_leave_the_timers() {
     let timers = machine.timers.clone();
     machine.open();
     machine.sample(0, 0b010);
+    machine.store(0x3000, 0);
     machine.store(0x3000, 1);
     machine.load(4);
     machine.csr_write(MEIVT, u32::MAX);

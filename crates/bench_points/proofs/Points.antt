@@ -1,6 +1,7 @@
 -- The table of bench points: each is what the rules compute.
 use mathlib.Core.Path.{_≡_, refl}
-use mathlib.Core.List.{[], _++_}
+use mathlib.Core.Bool.{true, false}
+use mathlib.Core.List.{[], _∷_, _++_}
 use Rattle.event.specs.Event.{shapeOf}
 use Rattle.event.specs.Listing.{listingSources, listingHeads, listingValues}
 use Rattle.pic_source.specs.Ranks.{mirror}
@@ -23,7 +24,7 @@ use Rattle.handlers_stack.specs.Stacks.{handlerSound, belowOf, handlersSound, l
 use Rattle.handlers.specs.Machines.{powerOnOf, soundOf}
 use Rattle.handlers.specs.Service.{sampleEvent, loadEvent, storeEvent, csrReadEvent, controllerWrite, csrWriteEvent, takeEvent, openEvent, chainEvent, returnEvent, setMaskEvent, clockEvent, eventOf, soundStepOf}
 use Rattle.handlers.specs.Calls.{clockOf, stepOf, marginAnswer}
-use Rattle.handlers_laws.proofs.Ranks.{rank-kept, field-15-never}
+use Rattle.handlers_laws.proofs.Ranks.{field-kept, field-15-never, meipl-stored}
 use Rattle.claims.specs.Play.{endOf, eachOf}
 use Rattle.digits.specs.Digits.{digitsTo}
 use Rattle.record.specs.Words.{wordsOf, bytesOfWords}
@@ -31,11 +32,11 @@ use Rattle.record.specs.Record.{recordOf}
 use Rattle.record.specs.Questions.{readVerdict, walkFrom}
 use Rattle.digits.specs.Ascii.{ascii}
 use Rattle.playback.specs.Print.{eventLines, printOf, compactPrintOf, printWithin}
-use Rattle.bench_points.specs.Points.{Points, Plays, Holds, after, listing-text, fifteen-up, fifteen-down, fifteen-handlers}
+use Rattle.bench_points.specs.Points.{Points, Plays, Holds, after, handler, listing-text, fifteen-up, fifteen-down, fifteen-handlers, three-fields, high-first, low-first, both-back, with-meicurpl}
 
 -- To unfold this is to unfold every rule.
 rules : Unit {0}
-unfolding printWithin eventLines ascii digitsTo readVerdict walkFrom wordsOf bytesOfWords endOf eachOf stepOf soundStepOf eventOf sampleEvent loadEvent storeEvent csrReadEvent controllerWrite csrWriteEvent takeEvent openEvent chainEvent returnEvent setMaskEvent clockEvent clockOf marginAnswer soundOf handlersSound handlerSound belowOf levelOf powerOnOf shapeOf calls.powerOnOf calls.sourceCount calls.currentRank calls.setCurrent calls.meihapOf calls.captureOf calls.lookOf registers.sampleOf registers.loadOf registers.storeOf csrs.csrReadOf csrs.csrWriteOf sound.soundOf sound.sourcesSound sourceSound isPending isEligible entryOf betterOf winnerTo higherOf differenceOf joinOf wordTo placesTo sourceRegister pageRegister offsetRefusal readOf writtenOf csrAt csrValue csrWritten mirror closedForm timers.timerAt timers.withTimer timers.resetCounters timers.timerSound timers.soundOf timers.nextCount timers.clockOf counters.csrOf counters.csrAt counters.csrValue counters.csrWritten
+unfolding printWithin eventLines ascii digitsTo readVerdict walkFrom wordsOf bytesOfWords endOf eachOf stepOf soundStepOf eventOf sampleEvent loadEvent storeEvent csrReadEvent controllerWrite csrWriteEvent takeEvent openEvent chainEvent returnEvent setMaskEvent clockEvent clockOf marginAnswer soundOf handlersSound handlerSound belowOf levelOf powerOnOf shapeOf calls.powerOnOf calls.sourceCount calls.priorityOrder calls.currentRank calls.setCurrent calls.meihapOf calls.captureOf calls.lookOf registers.sampleOf registers.loadOf registers.storeOf csrs.csrReadOf csrs.csrWriteOf sound.soundOf sound.sourcesSound sourceSound isPending isEligible entryOf betterOf winnerTo higherOf differenceOf joinOf wordTo placesTo sourceRegister pageRegister offsetRefusal readOf writtenOf csrAt csrValue csrWritten mirror closedForm timers.timerAt timers.withTimer timers.resetCounters timers.timerSound timers.soundOf timers.nextCount timers.clockOf counters.csrOf counters.csrAt counters.csrValue counters.csrWritten
 rules = tt
 
 -- The whole print and the long list apart from the table, since what one declaration may compute is limited.
@@ -59,15 +60,38 @@ compact-listing : compactPrintOf (recordOf listingSources listingHeads listingVa
 unfolding rules
 compact-listing = refl
 
+fields-nested : Plays 4 (three-fields ++ high-first ++ low-first ++ both-back)
+unfolding rules
+fields-nested = (refl, refl)
+
+fields-nested-up : Holds (after 4 (three-fields ++ high-first ++ low-first)) 2 (handler 1 12 8 1 ∷ handler 3 14 12 1 ∷ []) 14
+unfolding rules
+fields-nested-up = refl
+
+fields-nested-down : Holds (after 4 (three-fields ++ high-first ++ low-first ++ both-back)) 1 (handler 2 12 7 0 ∷ []) 7
+unfolding rules
+fields-nested-down = refl
+
+fields-sound : soundOf (with-meicurpl (after 4 (three-fields ++ high-first ++ low-first)) 1) ≡ true
+unfolding rules
+fields-sound = refl
+
+fields-unsound : soundOf (with-meicurpl (after 4 (three-fields ++ high-first ++ low-first)) 14) ≡ false
+unfolding rules
+fields-unsound = refl
+
 pub points : Points
 unfolding rules
 points =
     record {
       k1 = (refl, refl);
+      k1-rank = refl;
       k2 = (refl, refl);
       k2-winner = refl;
       k2-never = field-15-never;
-      k2-kept = rank-kept;
+      k2-stored = meipl-stored;
+      k2-kept = field-kept;
+      k2-back = (refl, refl);
       k3-tie = refl;
       k3-tie-taken = (refl, refl);
       k3-higher = refl;
@@ -133,4 +157,16 @@ points =
       compact-listing = compact-listing;
       compact-print-22 = refl;
       compact-print-23 = refl;
+      fields-power-on = (refl, refl);
+      fields-power-on-margin = refl;
+      fields-margin = refl;
+      fields-captured = (refl, refl);
+      fields-nested = fields-nested;
+      fields-winner-0 = refl;
+      fields-winner-1 = refl;
+      fields-nested-up = fields-nested-up;
+      fields-nested-down = fields-nested-down;
+      fields-sound = fields-sound;
+      fields-unsound = fields-unsound;
+      fields-print = refl;
     }

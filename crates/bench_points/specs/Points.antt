@@ -1,7 +1,7 @@
--- Document 01, "Bench points K1 to K10", the ends of the margin, the listing of "The player", a list that nests fifteen handlers, and the timers, the mirror and the
--- compact reader of document 02: one table about the rules. A point is a list of events played from power-on, each event with what it must answer or be refused
+-- Document 01, "Bench points K1 to K10", the ends of the margin, the listing of "The player", a list that nests fifteen handlers, and the timers, the mirror, the
+-- compact reader and the fields of document 02: one table about the rules. A point is a list of events played from power-on, each event with what it must answer or be refused
 -- with, and what the machine must hold after it; or bytes, and what a reader or a player must answer.
-use Prim.Native.Nat.{ℕ, zero, suc, _+_, _*_, _^_, _≤_}
+use Prim.Native.Nat.{ℕ, zero, suc, _+_, _*_, _%_, _^_, _≤_}
 use Prim.Native.String.{String}
 use mathlib.Core.Path.{_≡_}
 use mathlib.Core.Bool.{true, false}
@@ -11,14 +11,15 @@ use lib.IntN.{ℤ, pos, negsuc}
 use Rattle.event.specs.Event.{kindOf, addressOf}
 use Rattle.event.specs.Listing.{listingSources, listingHeads, listingValues}
 use Rattle.pic_source.specs.declared.Rank.{Rank}
-use Rattle.pic_source.specs.Ranks.{rank}
+use Rattle.pic_source.specs.Ranks.{rank, field}
 use Rattle.pic_source.specs.ClosedForm.{closedForm}
-use Rattle.pic.specs.Sources.{rankAt, eligibleAt, winnerOf}
-use Rattle.pic.specs.Calls.{sourceCount, currentRank}
+use Rattle.pic.specs.Fields.{withScalars, withCurrent}
+use Rattle.pic.specs.Sources.{fieldAt, rankAt, eligibleAt, winnerOf}
+use Rattle.pic.specs.Calls.{sourceCount, priorityOrder, currentRank}
 use Rattle.counters.specs.Timers.{withControl, withTimer, resetTimer}
 use Rattle.handlers_stack.specs.declared.Handler.{Handler}
 use Rattle.handlers.specs.declared.Machine.{Machine}
-use Rattle.handlers.specs.Fields.{withCounters}
+use Rattle.handlers.specs.Fields.{withController, withCounters}
 use Rattle.handlers.specs.Machines.{soundOf, powerOnOf}
 use Rattle.handlers.specs.Calls.{storeOf, clockOf, stepOf, marginAnswer}
 use Rattle.claims.specs.Play.{endOf, answersOf, refusalsOf}
@@ -186,9 +187,17 @@ handlersOf m = record { depth = m .depth; handlers = first (m .depth) (m .stack)
 abbrev pub Holds : Machine → ℕ → List Handler → ℕ → Type 0
 Holds m depth handlers current = handlersOf m ≡ record { depth = depth; handlers = handlers; current = rank current }
 
--- K2: source 2 enabled and its line up, but of the rank that field 15 gives when priord is 1.
+-- K1: field 5, priord set.
+abbrev pub reversed : List Row
+reversed = store (meipl 2) 5 ∷ store mpiccfg 1 ∷ []
+
+-- Threshold and current take this field.
+abbrev pub bars : ℕ → List Row
+bars f = csrWrite meipt f ∷ csrWrite meicurpl f ∷ []
+
+-- K2: threshold and current of rank 0, source 2 enabled and its line up, but of the rank that field 15 gives when priord is 1.
 abbrev pub mirrored : List Row
-mirrored = store mpiccfg 1 ∷ store (meipl 2) 15 ∷ store (meie 2) 1 ∷ sample 0 4 ∷ mask 1 ∷ []
+mirrored = store mpiccfg 1 ∷ bars 15 ++ (store (meipl 2) 15 ∷ store (meie 2) 1 ∷ sample 0 4 ∷ mask 1 ∷ [])
 
 -- K3: sources 2 and 3 enabled at rank 5, both lines up, interrupts on.
 abbrev pub two-and-three : List Row
@@ -365,18 +374,86 @@ csrs-written f = csrWrite meipt f ∷ csrWrite meicidpl f ∷ csrWrite meicurpl 
 abbrev pub csrs-read : ℕ → List Row
 csrs-read f = csrRead meipt answers f ∷ csrRead meicidpl answers f ∷ csrRead meicurpl answers f ∷ []
 
+-- Power-on, and then priord 1: source 2 enabled and its line up, interrupts on.
+abbrev pub from-power-on : List Row
+from-power-on = store mpiccfg 1 ∷ store (meie 2) 1 ∷ sample 0 4 ∷ mask 1 ∷ []
+
+-- Source 1 has field 3, source 2 field 12, source 3 field 1; threshold and current have field 7. With priord 0 source 2 alone is above them, with priord 1
+-- sources 1 and 3 are. The lines of 1 and 2 are up.
+abbrev pub three-fields : List Row
+three-fields = enabled 1 3 ++ enabled 2 12 ++ enabled 3 1 ++ bars 7 ++ (sample 0 6 ∷ mask 1 ∷ [])
+
+-- Source 2 taken and opened, at rank 12. While it is open priord stays: 24 for the other one, whatever the value's other bits; the same one is accepted; beside
+-- mpiccfg 11 and 10 come first, and a store that is dropped is accepted. Then it returns.
+abbrev pub high-first : List Row
+high-first =
+    take answers 8
+    ∷ store mpiccfg 1 refused 24
+    ∷ store mpiccfg 0
+    ∷ open-handler answers 12
+    ∷ csrRead meicurpl answers 12
+    ∷ store mpiccfg 0xFFFFFFFF refused 24
+    ∷ store mpiccfg 0xFFFFFFFE
+    ∷ store 0x3002 1 refused 11
+    ∷ store 0xB000 1 refused 10
+    ∷ store 0x3004 1
+    ∷ load mpiccfg answers 0
+    ∷ mask 0
+    ∷ return answers 0
+    ∷ csrRead meicurpl answers 7
+    ∷ []
+
+-- Then priord switches, and with nothing else written source 1 is taken, at rank 12, and in it source 3, at rank 14. meicurpl holds fields: 3, and 1.
+abbrev pub low-first : List Row
+low-first =
+    store mpiccfg 1
+    ∷ csrRead meicurpl answers 7
+    ∷ take answers 4
+    ∷ csrRead meicidpl answers 3
+    ∷ store mpiccfg 0 refused 24
+    ∷ open-handler answers 12
+    ∷ csrRead meicurpl answers 3
+    ∷ sample 0 14
+    ∷ take answers 12
+    ∷ open-handler answers 14
+    ∷ csrRead meicurpl answers 1
+    ∷ []
+
+-- Both return, and priord switches back.
+abbrev pub both-back : List Row
+both-back =
+    mask 0
+    ∷ return answers 1
+    ∷ csrRead meicurpl answers 3
+    ∷ store mpiccfg 2 refused 24
+    ∷ mask 0
+    ∷ return answers 0
+    ∷ csrRead meicurpl answers 7
+    ∷ store mpiccfg 0
+    ∷ take answers 8
+    ∷ []
+
+-- A machine with this field in meicurpl.
+abbrev pub with-meicurpl : Machine → ℕ → Machine
+with-meicurpl m f = withController m (withScalars (m .controller) (withCurrent (m .controller .scalars) (field f)))
+
 -- The table.
 pub record Points : Type 0 where
-  -- K1 rank 5, priord set to 1: meipl reads 10.
-  pub k1 : Plays 4 (store (meipl 2) 5 ∷ store mpiccfg 1 ∷ load (meipl 2) answers 10 ∷ [])
+  -- K1, as document 02, No. 4, changes it: "field 5, priord set, reads 5, rank 10".
+  pub k1 : Plays 4 (reversed ++ (load (meipl 2) answers 5 ∷ []))
+  pub k1-rank : rankAt (after 4 reversed .controller) 2 ≡ rank 10
   -- K2 priord 1, field 15 stored: never eligible. It is pending, it reads 15 again, and it is not taken.
   pub k2 : Plays 4 (mirrored ++ (load (meip 0) answers 4 ∷ load (meipl 2) answers 15 ∷ take refused 16 ∷ []))
   pub k2-winner : Wins (after 4 mirrored) 0 0
-  -- So for every sound machine with priord 1 and every source; and no event that is not a store to that register changes its rank.
-  pub k2-never : (m : Machine) (s : ℕ) → soundOf m ≡ true → m .controller .scalars .priord ≡ 1 → 1 ≤ s → s ≤ sourceCount (m .controller)
-      → eligibleAt (storeOf m (meipl s) 15 .machine .controller) s ≡ false
+  -- "K2 holds while priord is 1": for every machine with priord 1 and every source that holds 15. A store of 15 makes it hold that, on every sound machine, and no
+  -- event that is not a store to that register changes it.
+  pub k2-never : (m : Machine) (s : ℕ) → priorityOrder (m .controller) ≡ 1 → fieldAt (m .controller) s ≡ field 15 → eligibleAt (m .controller) s ≡ false
+  pub k2-stored : (m : Machine) (s v : ℕ) → soundOf m ≡ true → 1 ≤ s → s ≤ sourceCount (m .controller)
+      → fieldAt (storeOf m (meipl s) v .machine .controller) s ≡ field (v % 16)
   pub k2-kept : (m : Machine) (head value s : ℕ) → (kindOf head ≡ 2 → addressOf head ≡ meipl s → ⊥)
-      → rankAt (stepOf m head value .machine .controller) s ≡ rankAt (m .controller) s
+      → fieldAt (stepOf m head value .machine .controller) s ≡ fieldAt (m .controller) s
+  -- Switched back, field 15 is rank 15.
+  pub k2-back : Plays 4 (mirrored ++ (store mpiccfg 0 ∷ load (meipl 2) answers 15 ∷ bars 0) ++ (take answers 8 ∷ open-handler answers 15 ∷ []))
   -- K3 sources 2 and 3 at rank 5: 2 wins;
   pub k3-tie : Wins (after 4 two-and-three) 2 5
   pub k3-tie-taken : Plays 4 (two-and-three ++ (take answers 8 ∷ []))
@@ -487,17 +564,17 @@ pub record Points : Type 0 where
   pub mirror-0 : closedColumn 0 16 ≡ pos 0 ∷ pos 1 ∷ pos 2 ∷ pos 3 ∷ pos 4 ∷ pos 5 ∷ pos 6 ∷ pos 7 ∷ pos 8 ∷ pos 9 ∷ pos 10 ∷ pos 11 ∷ pos 12 ∷ pos 13 ∷ pos 14 ∷ pos 15 ∷ []
   pub mirror-1 : closedColumn 1 16 ≡ pos 15 ∷ pos 14 ∷ pos 13 ∷ pos 12 ∷ pos 11 ∷ pos 10 ∷ pos 9 ∷ pos 8 ∷ pos 7 ∷ pos 6 ∷ pos 5 ∷ pos 4 ∷ pos 3 ∷ pos 2 ∷ pos 1 ∷ pos 0 ∷ []
   pub mirror-past : closedForm (pos 1) (pos 16) ≡ negsuc 0
-  -- "Callers see the same numbers": the rank of every field, and every field read back from meipl2; of the CSRs one field in each order, read in both.
+  -- "Callers see the same numbers": the rank of every field, and every field read back from meipl2; of the CSRs one field in each order, held as written in both.
   pub mirror-ranks : rankColumn 16 ≡ rank 15 ∷ rank 14 ∷ rank 13 ∷ rank 12 ∷ rank 11 ∷ rank 10 ∷ rank 9 ∷ rank 8 ∷ rank 7 ∷ rank 6 ∷ rank 5 ∷ rank 4 ∷ rank 3 ∷ rank 2 ∷ rank 1 ∷ rank 0 ∷ []
   pub mirror-meipl : Plays 4 (store mpiccfg 1 ∷ stored 16)
   pub mirror-csrs :
       Plays 4
       ((store mpiccfg 1 ∷ csrs-written 3)
       ++ csrs-read 3
-      ++ (store mpiccfg 0 ∷ csrs-read 12)
+      ++ (store mpiccfg 0 ∷ csrs-read 3)
       ++ csrs-written 15
       ++ csrs-read 15
-      ++ (store mpiccfg 1 ∷ csrs-read 0))
+      ++ (store mpiccfg 1 ∷ csrs-read 15))
   -- Document 02, No. 3. "22 when the van's reader meets N above 63, after question 2; 23 when it meets n above 500, after question 3; both with place 0." Where
   -- it takes N and n, or 2 or 3 is answered no, it answers as the big reader does.
   pub compact-around :
@@ -540,3 +617,47 @@ pub record Points : Type 0 where
   pub compact-listing : compactPrintOf (recordOf listingSources listingHeads listingValues) ≡ ascii listing-text
   pub compact-print-22 : compactPrintOf (sizes 0 64) ≡ ascii "refused 22 at 0\n"
   pub compact-print-23 : compactPrintOf (sizes 501 63) ≡ ascii "refused 23 at 0\n"
+  -- Document 02, No. 4. "At power-on with priord then set to 1, all these ranks are 15": the fields read 0, and nothing is taken until threshold and current are both
+  -- written. The handler's rank is 15, and its field 0.
+  pub fields-power-on :
+      Plays 4
+      (from-power-on
+      ++ csrs-read 0
+      ++ (load (meipl 2) answers 0
+      ∷ take refused 16
+      ∷ csrWrite meipt 15
+      ∷ take refused 16
+      ∷ csrWrite meicurpl 15
+      ∷ take answers 8
+      ∷ csrRead meicidpl answers 0
+      ∷ open-handler answers 15
+      ∷ csrRead meicurpl answers 0
+      ∷ []))
+  pub fields-power-on-margin : HasMargin (after 4 from-power-on) (pos 0)
+  pub fields-margin : HasMargin (after 4 (from-power-on ++ bars 15)) (pos 15)
+  -- A capture stores the field of the winner's rank under the priord of now: 15 with no winner; and a switch leaves it.
+  pub fields-captured :
+      Plays 4
+      (store mpiccfg 1
+      ∷ csrWrite meicpct 0
+      ∷ csrRead meicidpl answers 15
+      ∷ csrRead meihap answers 0
+      ∷ enabled 2 10
+      ++ (sample 0 4
+      ∷ csrWrite meicpct 0
+      ∷ csrRead meicidpl answers 10
+      ∷ csrRead meihap answers 8
+      ∷ store mpiccfg 0
+      ∷ csrRead meicidpl answers 10
+      ∷ []))
+  -- Taken, returned, switched, taken again and nested, and 24 while a handler is open: handlers hold ranks.
+  pub fields-nested : Plays 4 (three-fields ++ high-first ++ low-first ++ both-back)
+  pub fields-winner-0 : Wins (after 4 three-fields) 2 12
+  pub fields-winner-1 : Wins (after 4 (three-fields ++ (store mpiccfg 1 ∷ []))) 1 12
+  pub fields-nested-up : Holds (after 4 (three-fields ++ high-first ++ low-first)) 2 (handler 1 12 8 1 ∷ handler 3 14 12 1 ∷ []) 14
+  pub fields-nested-down : Holds (after 4 (three-fields ++ high-first ++ low-first ++ both-back)) 1 (handler 2 12 7 0 ∷ []) 7
+  -- Current's rank is compared with the stack: with the field of rank 14 the machine is sound, with 14 as field it is not.
+  pub fields-sound : soundOf (with-meicurpl (after 4 (three-fields ++ high-first ++ low-first)) 1) ≡ true
+  pub fields-unsound : soundOf (with-meicurpl (after 4 (three-fields ++ high-first ++ low-first)) 14) ≡ false
+  -- Level and margin are of ranks.
+  pub fields-print : endLine (after 4 (store mpiccfg 1 ∷ csrWrite meipt 15 ∷ csrWrite meicurpl 3 ∷ [])) ≡ ascii "end open 0 level 12 margin -12\n"

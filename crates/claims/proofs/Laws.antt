@@ -36,7 +36,7 @@ use Rattle.handlers_stack.specs.Stacks.{blank}
 use Rattle.handlers.specs.Machines.{uppermost, powerOnOf}
 use Rattle.handlers.specs.Service.{accepted, refused, lifted, lookAt, newHandler, taken, marked, serves, replaced, chained}
 use Rattle.handlers.specs.Calls.{stepOf}
-use Rattle.handlers_laws.proofs.Facts.{facts, Sound, room}
+use Rattle.handlers_laws.proofs.Facts.{facts, Sound, saved-small, room}
 use Rattle.handlers_laws.proofs.Cases.{step-cases}
 use Rattle.handlers_laws.proofs.Kept.{Ready, step-ready, power-on-ready, power-on-empty, top-current, one-more}
 use Rattle.claims.specs.Nested.{word, answerOf, classBy, seen, Won, eh1, Demand3}
@@ -147,7 +147,7 @@ module _ (m : Machine) (r : Ready m) where
         refuses = λ k q n. refused-does k m q n;
         samples = controller-does 0 (λ e. omega arith) (λ e. omega arith) (λ e. omega arith) (registers.sampleOf (m .controller) a v);
         loads = controller-does 1 (λ e. omega arith) (λ e. omega arith) (λ e. omega arith) (registers.loadOf (m .controller) a);
-        stores = controller-does 2 (λ e. omega arith) (λ e. omega arith) (λ e. omega arith) (registers.storeOf (m .controller) a v);
+        stores = λ f. controller-does 2 (λ e. omega arith) (λ e. omega arith) (λ e. omega arith) (registers.storeOf (m .controller) a v);
         reads = controller-does 3 (λ e. omega arith) (λ e. omega arith) (λ e. omega arith) (csrs.csrReadOf (m .controller) a);
         counter-reads = λ f. counters-do 3 (m .counters) (counters.csrValue (m .counters) (counters.csrAt a)) (λ e. omega arith) (λ e. omega arith) (λ e. omega arith);
         writes = λ f. controller-does 4 (λ e. omega arith) (λ e. omega arith) (λ e. omega arith) (csrs.csrWriteOf (m .controller) a v);
@@ -160,7 +160,7 @@ module _ (m : Machine) (r : Ready m) where
             record {
               old = seen (uppermost m);
               was = held-pop seen (m .stack) (m .depth) blank (ltb-true 0 (m .depth) f) deep;
-              restored = ap (λ (z : Rank). z .0) (current-is (m .controller) (uppermost m .saved));
+              restored = ap (λ (z : Rank). z .0) (current-is (m .controller) (uppermost m .saved) (saved-small m sound-here (ltb-true 0 (m .depth) f)));
             };
         masks = λ f g. other-does 9 (accepted (withMask m v) 0) (λ e. omega arith) (λ e. omega arith) (λ e. omega arith) refl;
         clocks = counters-do 10 (timers.clockOf (m .counters) .counters) (timers.clockOf (m .counters) .answer) (λ e. omega arith) (λ e. omega arith) (λ e. omega arith);

@@ -7,7 +7,6 @@ use lib.Dec.{eqb}
 use borrow.Author.Tests.{not-true, not-false}
 use Rattle.handlers.specs.declared.Machine.{Machine}
 use Rattle.handlers.specs.Machines.{soundOf}
-use Rattle.handlers.specs.Service.{mayWrite}
 
 module _ (m : Machine) where
   -- `if !is_sound()`.
@@ -17,9 +16,9 @@ module _ (m : Machine) where
   pub is-sound : {r : Bool} → r ≡ soundOf m → not r ≡ false → soundOf m ≡ true
   is-sound {r} e h = sym e ∙ not-false r h
 
-  -- Question 14 as the code asks it.
-  pub may-write : (a : ℕ) {t : Bool} → eqb a 0xBCC && not (eqb (m .depth) 0) ≡ t → mayWrite m a ≡ not t
-  may-write a {t} e = go (eqb a 0xBCC) (eqb (m .depth) 0) e
+  -- Questions 14 and 24 as the code asks them: what they are asked of may come only while no handler is open.
+  pub may : (asked : Bool) {t : Bool} → asked && not (eqb (m .depth) 0) ≡ t → (not asked || eqb (m .depth) 0) ≡ not t
+  may asked {t} e = go asked (eqb (m .depth) 0) e
     where
       go : (p q : Bool) → p && not q ≡ t → (not p || q) ≡ not t
       go true true h = rw (← h)

@@ -6,3 +6,4 @@ pub mod Calls
 pub mod Checked
 pub mod Latches
 pub mod Timers
+pub mod Switches

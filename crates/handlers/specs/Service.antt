@@ -1,4 +1,4 @@
--- Document 01, "Handler service", and the questions 12 to 21; document 02, No. 1: what each event does and answers, once question 8 is answered yes. The rules are
+-- Document 01, "Handler service", and the questions 12 to 21; document 02, No. 1 and No. 4: what each event does and answers, once question 8 is answered yes. The rules are
 -- total: on a machine that is not sound they say what the code does, and question 8 keeps that from every caller.
 use Prim.Native.Nat.{ℕ, _+_, _-_, _%_, _^_}
 use mathlib.Core.Bool.{Bool, cond, not, _&&_, _||_}
@@ -10,7 +10,7 @@ use Rattle.event.specs.Event.{kindOf, addressOf, shapeOf}
 use Rattle.pic.specs.declared.Look.{Look}
 use Rattle.pic.specs.declared.Winner.{Winner}
 use Rattle.pic.specs.declared.Outcome as controller
-use Rattle.pic.specs.Calls.{currentRank, setCurrent, captureOf, lookOf}
+use Rattle.pic.specs.Calls.{priorityOrder, currentRank, setCurrent, captureOf, lookOf}
 use Rattle.pic_registers.specs.Calls as registers
 use Rattle.pic_csrs.specs.Calls as csrs
 use Rattle.counters.specs.Timers as timers
@@ -37,15 +37,23 @@ ask m answer q on = cond answer on (refused m q)
 abbrev pub lifted : Machine → controller.Outcome → Outcome
 lifted m o = record { machine = withController m (o .controller); answer = o .answer; refusal = o .refusal }
 
--- Sample, load, store: the controller's own questions.
+-- Sample, load: the controller's own questions.
 unfoldable pub sampleEvent : Machine → ℕ → ℕ → Outcome
 sampleEvent m x v = lifted m (registers.sampleOf (m .controller) x v)
 
 unfoldable pub loadEvent : Machine → ℕ → Outcome
 loadEvent m offset = lifted m (registers.loadOf (m .controller) offset)
 
+-- Document 02, No. 4: "24 when a store to 0x3000 would change priord while a handler is open". It would where bit 0 of the value differs from priord.
+abbrev pub switches : Machine → ℕ → ℕ → Bool
+switches m offset v = eqb offset 0x3000 && not (eqb (v % 2) (priorityOrder (m .controller)))
+
+abbrev pub mayStore : Machine → ℕ → ℕ → Bool
+mayStore m offset v = not (switches m offset v) || eqb (m .depth) 0
+
+-- Store: 24 and the controller's own. 24 is asked of 0x3000 alone, to which 10 and 11 answer yes, so its place after them is the same (`StoreQuestions`).
 unfoldable pub storeEvent : Machine → ℕ → ℕ → Outcome
-storeEvent m offset v = lifted m (registers.storeOf (m .controller) offset v)
+storeEvent m offset v = ask m (mayStore m offset v) 24 (lifted m (registers.storeOf (m .controller) offset v))
 
 -- "Questions 6 and 12 widen to the new kind and CSRs": a CSR of the counters, which are the timers, is read and written there; any other address is the controller's,
 -- which asks 12.

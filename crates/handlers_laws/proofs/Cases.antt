@@ -16,7 +16,7 @@ use Rattle.handlers.specs.declared.Machine.{Machine}
 use Rattle.handlers.specs.declared.Outcome.{Outcome}
 use Rattle.handlers.specs.Fields.{withMask, withCounters}
 use Rattle.handlers.specs.Machines.{uppermost, isOpen, soundOf}
-use Rattle.handlers.specs.Service.{accepted, refused, ask, lifted, ofCounters, mayWrite, controllerWrite, hasHandler, lookAt, taken, opened, serves, captured, chained, returned, sampleEvent, loadEvent, storeEvent, csrReadEvent, csrWriteEvent, takeEvent, openEvent, chainEvent, returnEvent, setMaskEvent, clockEvent, eventOf, soundStepOf}
+use Rattle.handlers.specs.Service.{accepted, refused, ask, lifted, ofCounters, mayStore, mayWrite, controllerWrite, hasHandler, lookAt, taken, opened, serves, captured, chained, returned, sampleEvent, loadEvent, storeEvent, csrReadEvent, csrWriteEvent, takeEvent, openEvent, chainEvent, returnEvent, setMaskEvent, clockEvent, eventOf, soundStepOf}
 use Rattle.handlers.specs.Calls.{stepOf}
 
 -- The ways of an event of this address and value on the machine m, by its kind. A controller's own event may still be refused by the controller. A CSR is the
@@ -25,7 +25,7 @@ pub record Cases (m : Machine) (a v : ℕ) (P : ℕ → Outcome → Type 0) : Ty
   pub refuses : (k q : ℕ) → (q ≡ 0 → ⊥) → P k (refused m q)
   pub samples : P 0 (lifted m (registers.sampleOf (m .controller) a v))
   pub loads : P 1 (lifted m (registers.loadOf (m .controller) a))
-  pub stores : P 2 (lifted m (registers.storeOf (m .controller) a v))
+  pub stores : mayStore m a v ≡ true → P 2 (lifted m (registers.storeOf (m .controller) a v))
   pub reads : P 3 (lifted m (csrs.csrReadOf (m .controller) a))
   pub counter-reads : ofCounters a ≡ true → P 3 (accepted m (counters.csrValue (m .counters) (counters.csrAt a)))
   pub writes : mayWrite m a ≡ true → P 4 (lifted m (csrs.csrWriteOf (m .controller) a v))
@@ -51,6 +51,10 @@ module _ (m : Machine) (a v : ℕ) (P : ℕ → Outcome → Type 0) (h : Cases m
       go : (t : Bool) → ofCounters a ≡ t → P k (cond t x y)
       go true e = p e
       go false e = q
+
+  store-case : P 2 (storeEvent m a v)
+  unfolding storeEvent
+  store-case = ask-case 2 (mayStore m a v) 24 _ (λ e. omega arith) (λ f. h .stores f)
 
   read-case : P 3 (csrReadEvent m a)
   unfolding csrReadEvent
@@ -93,11 +97,11 @@ module _ (m : Machine) (a v : ℕ) (P : ℕ → Outcome → Type 0) (h : Cases m
       go false e = rw e q
 
   event-case : (k : ℕ) → P k (eventOf m k a v)
-  unfolding eventOf sampleEvent loadEvent storeEvent clockEvent
+  unfolding eventOf sampleEvent loadEvent clockEvent
   event-case k =
       choose k 0 _ _ (h .samples)
       (choose k 1 _ _ (h .loads)
-      (choose k 2 _ _ (h .stores)
+      (choose k 2 _ _ store-case
       (choose k 3 _ _ read-case
       (choose k 4 _ _ write-case
       (choose k 5 _ _ take-case

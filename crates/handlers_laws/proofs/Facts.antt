@@ -1,6 +1,6 @@
 -- What soundness of a machine says, in numbers: the Bool of the rules taken apart and put together; and why a handler above the current rank finds a place.
 use Prim.Native.Nat.{ℕ, zero, suc, _-_, _≤_, _<_}
-use mathlib.Core.Path.{_≡_, refl, ap}
+use mathlib.Core.Path.{_≡_, refl, ap, _∙_}
 use mathlib.Core.Bool.{true}
 use mathlib.Core.Logic.{_⊎_, inl, inr, ⊎-elim}
 use native.Mathlib.Omega.{arith}
@@ -11,6 +11,7 @@ use lib.Signed.{ltZ}
 use borrow.Author.Tests.{leb-true, eqb-true, le-leb, eq-eqb}
 use Rattle.pic_source.specs.declared.Rank.{Rank}
 use Rattle.pic_source.proofs.Bools.{or-cases, or-intro, all-at}
+use Rattle.pic.specs.declared.Controller.{Controller}
 use Rattle.pic.specs.Sound as pic
 use Rattle.pic.specs.Calls.{sourceCount, currentRank}
 use Rattle.pic_laws.proofs.Captures.{look-found, margin-over}
@@ -19,7 +20,7 @@ use Rattle.counters.specs.Timers as timers
 use Rattle.handlers_stack.specs.Stacks.{levelOf}
 use Rattle.handlers_stack.proofs.Stacks.{Fine, each, each-back, rank-high, level-opened}
 use Rattle.handlers.specs.declared.Machine.{Machine}
-use Rattle.handlers.specs.Fields.{withCounters}
+use Rattle.handlers.specs.Fields.{withController, withCounters}
 use Rattle.handlers.specs.Machines.{uppermost, isOpen, soundTests, soundOf}
 use Rattle.handlers.specs.Service.{lookAt}
 
@@ -89,9 +90,29 @@ counters-sound m t e h =
       counters = h;
     })
 
+-- Another sound controller with the same N, and the same current rank where there is a handler.
+pub controller-sound : (m : Machine) (c : Controller) → soundOf m ≡ true → pic.soundOf c ≡ true → sourceCount c ≡ sourceCount (m .controller)
+    → (m .depth ≡ 0) ⊎ (currentRank c ≡ currentRank (m .controller)) → soundOf (withController m c) ≡ true
+controller-sound m c e h n k =
+    let f = facts m e in
+    sound (withController m c)
+    (record {
+      few = f .few;
+      bit = f .bit;
+      handlers = λ j b. rw n (f .handlers j b);
+      current = ⊎-elim (λ z. inl z) (λ z. ⊎-elim (λ g. inl g) (λ g. inr (ap (λ (a : Rank). a .0) z ∙ g)) (f .current)) k;
+      masked = f .masked;
+      controller = h;
+      counters = f .counters;
+    })
+
 -- The uppermost handler.
 pub top-fine : (m : Machine) → Sound m → 0 < m .depth → Fine (sourceCount (m .controller)) (m .depth) (m .stack) (m .depth - 1)
 top-fine m f h = f .handlers (m .depth - 1) (omega arith)
+
+-- Its saved rank is in range.
+pub saved-small : (m : Machine) → Sound m → 0 < m .depth → uppermost m .saved .0 ≤ 15
+saved-small m f h = let t = top-fine m f h in omega (arith, t .rank-most, t .saved-less)
 
 -- With the mask on, the current rank is at least the number of handlers.
 current-high : (m : Machine) → Sound m → (m .mask ≡ 0 → ⊥) → m .depth ≤ currentRank (m .controller) .0

@@ -1,7 +1,7 @@
 -- Every event keeps a sound machine sound.
-use Prim.Native.Nat.{ℕ, zero, suc, _+_, _-_, _^_, _≤_, _<_}
+use Prim.Native.Nat.{ℕ, zero, suc, _+_, _-_, _%_, _^_, _≤_, _<_}
 use mathlib.Core.Path.{_≡_, refl, sym, ap, _∙_}
-use mathlib.Core.Bool.{true, not, _||_}
+use mathlib.Core.Bool.{true, false, not, _||_}
 use mathlib.Core.Logic.{_⊎_, inl, inr, ⊎-elim}
 use native.Mathlib.Omega.{arith}
 use lib.ListN.{length, set, length-set}
@@ -9,12 +9,13 @@ use lib.Seq.{getD-set-same}
 use lib.Dec.{leb, eqb}
 use lib.IntN.{pos}
 use lib.Signed.{ltZ}
-use borrow.Author.Tests.{eqb-true, eqb-false, ltb-true, leb-true, not-true}
+use borrow.Author.Tests.{eqb-true, eqb-false, eq-eqb, ltb-true, leb-true, not-true, not-false}
 use Rattle.event.specs.Event.{addressOf}
 use Rattle.pic.specs.declared.Controller.{Controller}
 use Rattle.pic_source.specs.declared.Rank.{Rank}
 use Rattle.pic.specs.Sound as pic
-use Rattle.pic.specs.Calls.{sourceCount, currentRank, captureOf}
+use Rattle.pic.specs.Calls.{sourceCount, priorityOrder, currentRank, captureOf}
+use Rattle.pic_registers.specs.Calls as registers
 use Rattle.pic_csrs.specs.Calls as csrs
 use Rattle.counters.specs.declared.Counters.{Counters}
 use Rattle.counters.specs.Timers as timers
@@ -30,10 +31,10 @@ use Rattle.handlers_stack.proofs.Stacks.{Fine, Stored, fine-kept, fine-stored, 
 use Rattle.handlers.specs.declared.Machine.{Machine}
 use Rattle.handlers.specs.Fields.{withController, withMask, withCounters}
 use Rattle.handlers.specs.Machines.{uppermost, isOpen, soundOf, powerOnOf}
-use Rattle.handlers.specs.Service.{lifted, mayWrite, lookAt, newHandler, oneMore, taken, marked, opened, serves, replaced, captured, chained, returned}
+use Rattle.handlers.specs.Service.{lifted, switches, mayStore, mayWrite, lookAt, newHandler, oneMore, taken, marked, opened, serves, replaced, captured, chained, returned}
 use Rattle.handlers.specs.Calls.{stepOf}
 use Rattle.handlers_laws.proofs.Cases.{step-cases}
-use Rattle.handlers_laws.proofs.Facts.{Sound, facts, sound, counters-sound, top-fine, open-cases, room}
+use Rattle.handlers_laws.proofs.Facts.{Sound, facts, sound, controller-sound, counters-sound, top-fine, open-cases, saved-small, room}
 
 -- A sound machine whose stack has its fifteen places.
 pub record Ready (m : Machine) : Type 0 where
@@ -43,22 +44,9 @@ pub record Ready (m : Machine) : Type 0 where
 ready : (m : Machine) → Sound m → length (m .stack) ≡ 15 → Ready m
 ready m f p = record { isSound = sound m f; places = p }
 
--- Another controller with the same N, and the same current rank where there is a handler.
 with-controller : (m : Machine) (c : Controller) → Ready m → pic.soundOf c ≡ true → sourceCount c ≡ sourceCount (m .controller)
     → (m .depth ≡ 0) ⊎ (currentRank c ≡ currentRank (m .controller)) → Ready (withController m c)
-with-controller m c r e n k =
-    let f = facts m (r .isSound) in
-    ready (withController m c)
-    (record {
-      few = f .few;
-      bit = f .bit;
-      handlers = λ j b. rw n (f .handlers j b);
-      current = ⊎-elim (λ z. inl z) (λ z. ⊎-elim (λ g. inl g) (λ g. inr (ap (λ (a : Rank). a .0) z ∙ g)) (f .current)) k;
-      masked = f .masked;
-      controller = e;
-      counters = f .counters;
-    })
-    (r .places)
+with-controller m c r e n k = record { isSound = controller-sound m c (r .isSound) e n k; places = r .places }
 
 -- With the mask on, the current rank is the uppermost handler's.
 pub top-current : (m : Machine) → Sound m → (m .mask ≡ 0 → ⊥) → 0 < m .depth → currentRank (m .controller) .0 ≡ uppermost m .rank .0
@@ -196,7 +184,7 @@ opened-ready m r d =
       bit = omega arith;
       handlers = λ j l. rw (current-count (m .controller) (uppermost m .rank)) (over-fine m r d q (t .source-least) (t .source-most) refl refl (omega arith) j l);
       current =
-          inr (ap (λ (a : Rank). a .0) (current-is (m .controller) (uppermost m .rank) ∙ sym (level-opened q refl))
+          inr (ap (λ (a : Rank). a .0) (current-is (m .controller) (uppermost m .rank) (t .rank-most) ∙ sym (level-opened q refl))
           ∙ ap (λ (z : Handler). levelOf z .0) (sym e));
       masked = inr (inr (ap (λ (z : Handler). z .opened) e));
       controller = current-sound (m .controller) (s .controller) (uppermost m .rank) (t .rank-most);
@@ -232,11 +220,11 @@ returned-ready m r d =
           (fine-popped (sourceCount (m .controller)) (m .depth) (m .stack) j (omega arith) (s .handlers j (omega arith)));
       current =
           ⊎-elim (λ e. inl e)
-          (λ e. inr (ap (λ (a : Rank). a .0) (current-is (m .controller) (uppermost m .saved)) ∙ e .1
+          (λ e. inr (ap (λ (a : Rank). a .0) (current-is (m .controller) (uppermost m .saved) (saved-small m s d)) ∙ e .1
           ∙ sym (ap (λ (a : Rank). a .0) (level-opened (handlerAt (m .stack) (m .depth - 1 - 1)) (e .0)))))
           k;
       masked = inr (⊎-elim (λ e. inl e) (λ e. inr (e .0)) k);
-      controller = current-sound (m .controller) (s .controller) (uppermost m .saved) (omega (arith, t .rank-most, t .saved-less));
+      controller = current-sound (m .controller) (s .controller) (uppermost m .saved) (saved-small m s d);
       counters = s .counters;
     })
     (r .places)
@@ -292,6 +280,12 @@ masked-ready m r v l e =
 with-counters : (m : Machine) (t : Counters) → Ready m → timers.soundOf t ≡ true → Ready (withCounters m t)
 with-counters m t r e = record { isSound = counters-sound m t (r .isSound) e; places = r .places }
 
+-- A store that does not switch priord: where it is to 0x3000, it stores the priord that is there.
+pub kept-order : (m : Machine) (a v : ℕ) → switches m a v ≡ false → a ≡ 0x3000 → v % 2 ≡ priorityOrder (m .controller)
+kept-order m a v f e =
+    let g : not (eqb (v % 2) (priorityOrder (m .controller))) ≡ false = rw (eq-eqb a 0x3000 e) at f in
+    eqb-true _ _ (not-false _ g)
+
 -- The controller's own events, and those of the timers.
 module _ (m : Machine) (r : Ready m) where
   is-sound-controller : pic.soundOf (m .controller) ≡ true
@@ -307,6 +301,12 @@ module _ (m : Machine) (r : Ready m) where
       (⊎-elim (λ g. inr (csr-write-current (m .controller) a v (λ z. eqb-false a 0xBCC (not-true _ g) z))) (λ g. inl (eqb-true (m .depth) 0 g))
       (or-cases (not (eqb a 0xBCC)) (eqb (m .depth) 0) f))
 
+  store-ready : (a v : ℕ) → mayStore m a v ≡ true → Ready (lifted m (registers.storeOf (m .controller) a v) .machine)
+  store-ready a v f =
+      with-controller m _ r (store-sound (m .controller) is-sound-controller a v) (store-count (m .controller) a v)
+      (⊎-elim (λ g. inr (store-current (m .controller) a v (kept-order m a v (not-true _ g)))) (λ g. inl (eqb-true (m .depth) 0 g))
+      (or-cases (not (switches m a v)) (eqb (m .depth) 0) f))
+
   -- Every event keeps a sound machine sound.
   pub step-ready : (head v : ℕ) → v < 2 ^ 32 → Ready (stepOf m head v .machine)
   step-ready head v b =
@@ -318,9 +318,7 @@ module _ (m : Machine) (r : Ready m) where
             with-controller m _ r (sample-sound (m .controller) is-sound-controller a v) (sample-count (m .controller) a v)
             (inr (sample-current (m .controller) a v));
         loads = same-ready _ (load-same (m .controller) a);
-        stores =
-            with-controller m _ r (store-sound (m .controller) is-sound-controller a v) (store-count (m .controller) a v)
-            (inr (store-current (m .controller) a v));
+        stores = λ f. store-ready a v f;
         reads = same-ready _ (csr-read-same (m .controller) a);
         counter-reads = λ f. r;
         writes = λ f. write-ready a v b f;

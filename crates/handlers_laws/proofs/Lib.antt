@@ -8,3 +8,4 @@ pub mod Latches
 pub mod Ranks
 pub mod Values
 pub mod Timers
+pub mod Switches

@@ -1,14 +1,18 @@
--- The ranks of the sources after an event of any kind, and K2's "never".
-use Prim.Native.Nat.{ℕ, _*_, _≤_}
-use mathlib.Core.Path.{_≡_, refl, ap}
+-- The fields and the ranks of the sources, and priord, after an event of any kind, and K2's "never".
+use Prim.Native.Nat.{ℕ, _*_, _%_, _≤_}
+use mathlib.Core.Path.{_≡_, refl, ap, _∙_}
 use mathlib.Core.Bool.{true, false}
+use native.Mathlib.Omega.{arith}
+use borrow.Author.Tests.{ne-eqb}
 use Rattle.event.specs.Event.{kindOf, addressOf}
-use Rattle.pic.specs.declared.Controller.{Controller}
-use Rattle.pic.specs.Sources.{rankAt, eligibleAt}
-use Rattle.pic.specs.Calls.{sourceCount, setCurrent, captureOf}
+use Rattle.pic_source.specs.declared.Field.{Field}
+use Rattle.pic_source.specs.Ranks.{field, rankOf}
+use Rattle.pic.specs.Sources.{fieldAt, rankAt, eligibleAt}
+use Rattle.pic.specs.Calls.{sourceCount, priorityOrder, setCurrent, captureOf}
+use Rattle.pic_registers.specs.Calls as registers
 use Rattle.pic_csrs.specs.Calls as csrs
 use Rattle.pic_laws.proofs.Kept.{load-same, csr-read-same}
-use Rattle.pic_laws.proofs.Sources.{arrays-rank, csr-write-arrays, capture-arrays, current-arrays, sample-rank-kept, store-rank-kept, field-15-stored}
+use Rattle.pic_laws.proofs.Sources.{Stays, arraysOf, arrays-stay, csr-write-arrays, capture-arrays, current-arrays, sample-stays, store-stays, count-most, field-stored, field-15}
 use Rattle.handlers.specs.declared.Machine.{Machine}
 use Rattle.handlers.specs.Machines.{uppermost, soundOf}
 use Rattle.handlers.specs.Service.{lookAt, storeEvent}
@@ -16,34 +20,50 @@ use Rattle.handlers.specs.Calls.{storeOf, stepOf}
 use Rattle.handlers_laws.proofs.Cases.{step-cases}
 use Rattle.handlers_laws.proofs.Facts.{facts}
 
--- No event that is not a store to the meipl of source s changes its rank.
-pub rank-kept : (m : Machine) (head value s : ℕ) → (kindOf head ≡ 2 → addressOf head ≡ 4 * s → ⊥)
-    → rankAt (stepOf m head value .machine .controller) s ≡ rankAt (m .controller) s
-rank-kept m head v s d =
+-- No event that is not a store to the meipl of source s changes its field, and none that is not a store to mpiccfg changes priord.
+pub step-stays : (m : Machine) (head value s : ℕ) → Stays (kindOf head ≡ 2) (addressOf head) s (m .controller) (stepOf m head value .machine .controller)
+step-stays m head v s =
     let c = m .controller in
     let o = addressOf head in
-    step-cases m head v (λ k z. (k ≡ 2 → o ≡ 4 * s → ⊥) → rankAt (z .machine .controller) s ≡ rankAt c s)
+    step-cases m head v (λ k z. Stays (k ≡ 2) o s c (z .machine .controller))
     (record {
-      refuses = λ k q n z. refl;
-      samples = λ z. sample-rank-kept c o v s;
-      loads = λ z. ap (λ (x : Controller). rankAt x s) (load-same c o);
-      stores = λ z. store-rank-kept c o v s (z refl);
-      reads = λ z. ap (λ (x : Controller). rankAt x s) (csr-read-same c o);
-      counter-reads = λ f z. refl;
-      writes = λ f z. arrays-rank c (csrs.csrWriteOf c o v .controller) (csr-write-arrays c o v) s;
-      counter-writes = λ f z. refl;
-      takes = λ f g z. arrays-rank c (captureOf c (lookAt m .winner)) (capture-arrays c (lookAt m .winner)) s;
-      opens = λ f z. arrays-rank c (setCurrent c (uppermost m .rank)) (current-arrays c (uppermost m .rank)) s;
-      chains = λ f g z. arrays-rank c (captureOf c (lookAt m .winner)) (capture-arrays c (lookAt m .winner)) s;
-      passes = λ z. arrays-rank c (captureOf c (lookAt m .winner)) (capture-arrays c (lookAt m .winner)) s;
-      returns = λ f z. arrays-rank c (setCurrent c (uppermost m .saved)) (current-arrays c (uppermost m .saved)) s;
-      masks = λ f g z. refl;
-      clocks = λ z. refl;
+      refuses = λ k q n. arrays-stay c s c refl;
+      samples = sample-stays c s o v;
+      loads = arrays-stay c s (registers.loadOf c o .controller) (ap arraysOf (load-same c o));
+      stores = λ f. store-stays c s v refl;
+      reads = arrays-stay c s (csrs.csrReadOf c o .controller) (ap arraysOf (csr-read-same c o));
+      counter-reads = λ f. arrays-stay c s c refl;
+      writes = λ f. arrays-stay c s (csrs.csrWriteOf c o v .controller) (csr-write-arrays c o v);
+      counter-writes = λ f. arrays-stay c s c refl;
+      takes = λ f g. arrays-stay c s (captureOf c (lookAt m .winner)) (capture-arrays c (lookAt m .winner));
+      opens = λ f. arrays-stay c s (setCurrent c (uppermost m .rank)) (current-arrays c (uppermost m .rank));
+      chains = λ f g. arrays-stay c s (captureOf c (lookAt m .winner)) (capture-arrays c (lookAt m .winner));
+      passes = arrays-stay c s (captureOf c (lookAt m .winner)) (capture-arrays c (lookAt m .winner));
+      returns = λ f. arrays-stay c s (setCurrent c (uppermost m .saved)) (current-arrays c (uppermost m .saved));
+      masks = λ f g. arrays-stay c s c refl;
+      clocks = arrays-stay c s c refl;
     })
-    d
 
--- On every sound machine with priord 1, a source whose meipl is stored 15 is not eligible.
-pub field-15-never : (m : Machine) (s : ℕ) → soundOf m ≡ true → m .controller .scalars .priord ≡ 1 → 1 ≤ s → s ≤ sourceCount (m .controller)
-    → eligibleAt (storeOf m (4 * s) 15 .machine .controller) s ≡ false
+pub field-kept : (m : Machine) (head value s : ℕ) → (kindOf head ≡ 2 → addressOf head ≡ 4 * s → ⊥)
+    → fieldAt (stepOf m head value .machine .controller) s ≡ fieldAt (m .controller) s
+field-kept m head v s d = step-stays m head v s .field d
+
+-- So the rank of a source changes by a store to its meipl or to mpiccfg alone.
+pub rank-kept : (m : Machine) (head value s : ℕ) → (kindOf head ≡ 2 → addressOf head ≡ 4 * s → ⊥) → (kindOf head ≡ 2 → addressOf head ≡ 0x3000 → ⊥)
+    → rankAt (stepOf m head value .machine .controller) s ≡ rankAt (m .controller) s
+unfolding priorityOrder
+rank-kept m head v s d p =
+    let k = step-stays m head v s in
+    ap (λ (a : ℕ). rankOf a (fieldAt (stepOf m head v .machine .controller) s)) (k .priord p) ∙ ap (λ (a : Field). rankOf (m .controller .scalars .priord) a) (k .field d)
+
+-- K2: on every machine with priord 1, a source whose meipl holds 15 is not eligible.
+pub field-15-never : (m : Machine) (s : ℕ) → priorityOrder (m .controller) ≡ 1 → fieldAt (m .controller) s ≡ field 15 → eligibleAt (m .controller) s ≡ false
+field-15-never m s p f = field-15 (m .controller) s p f
+
+-- And a store of 15 to its meipl makes it so, on every sound machine.
+pub meipl-stored : (m : Machine) (s v : ℕ) → soundOf m ≡ true → 1 ≤ s → s ≤ sourceCount (m .controller)
+    → fieldAt (storeOf m (4 * s) v .machine .controller) s ≡ field (v % 16)
 unfolding storeOf storeEvent
-field-15-never m s e p a b = rw e (field-15-stored (m .controller) (facts m e .controller) s a b p)
+meipl-stored m s v e a b =
+    let h = facts m e .controller in
+    rw (e, ne-eqb (4 * s) 0x3000 (λ z. omega (arith, z, count-most (m .controller) h, b))) (field-stored (m .controller) h s a b v)

@@ -21,7 +21,7 @@ module _ (m : Machine) where
         refuses = λ k q n d. refl;
         samples = λ d. ap (withController m) (sample-refused (m .controller) a v d);
         loads = λ d. ap (withController m) (load-same (m .controller) a);
-        stores = λ d. ap (withController m) (store-refused (m .controller) a v d);
+        stores = λ f d. ap (withController m) (store-refused (m .controller) a v d);
         reads = λ d. ap (withController m) (csr-read-same (m .controller) a);
         counter-reads = λ f d. refl;
         writes = λ f d. ap (withController m) (csr-write-refused (m .controller) a v d);

@@ -7,16 +7,15 @@ use lib.ListN.{length}
 use lib.Dec.{leb, eqb}
 use borrow.Author.Tests.{le-leb, lt-ltb}
 use Rattle.pic.specs.declared.Controller.{Controller}
-use Rattle.pic.specs.Sources.{thresholdOf, claimedOf, currentOf}
 use Rattle.pic.specs.Sound.{soundOf, sourcesSound}
 
 module _ (c : Controller) (n : c .sources < 256) (b : c .scalars .base < 2 ^ 32) where
-  pub sound-tested : {ok : Bool} → c .sources < length (c .rank) → c .sources < length (c .enable) → c .sources < length (c .trigger)
+  pub sound-tested : {ok : Bool} → c .sources < length (c .field) → c .sources < length (c .enable) → c .sources < length (c .trigger)
       → c .sources < length (c .polarity) → c .sources < length (c .line) → c .sources < length (c .latch) → ok ≡ sourcesSound c (c .sources)
       → leb 2 (c .sources) && leb (c .scalars .priord) 1 && eqb (c .scalars .base % 1024) 0 && leb (c .scalars .claim) (c .sources)
-      && leb (thresholdOf (c .scalars) .0) 15
-      && leb (claimedOf (c .scalars) .0) 15
-      && leb (currentOf (c .scalars) .0) 15
+      && leb (c .scalars .threshold .0) 15
+      && leb (c .scalars .claimed .0) 15
+      && leb (c .scalars .current .0) 15
       && ok
       ≡ soundOf c
   unfolding soundOf

@@ -13,10 +13,11 @@ use Rattle.pic.specs.declared.Controller.{Controller}
 use Rattle.pic_source.specs.Sources.{isActive, latchAfter}
 use Rattle.pic.specs.declared.Scalars.{Scalars}
 use Rattle.pic.specs.Fields.{withScalars}
-use Rattle.pic.specs.Sources.{rankAt, enableAt, triggerAt, polarityAt, lineAt, latchAt, thresholdOf, claimedOf, currentOf}
+use Rattle.pic.specs.Sources.{fieldAt, rankAt, enableAt, triggerAt, polarityAt, lineAt, latchAt, thresholdOf, currentOf}
 use Rattle.pic.specs.Calls.{meihapOf}
 use Rattle.pic.specs.Sound.{placeTests, sourceSoundAt, sourcesSound, soundTests, soundOf, sourceTests, sourceSound}
 use Rattle.pic_source.proofs.Bools.{and-parts, or-cases, eq-cases, all-at}
+use Rattle.pic_source.proofs.Mirror.{mirror-small}
 
 -- An array with a place for each of the n sources, whose values at the sources are at most m.
 pub record Column (n : ℕ) (l : List ℕ) (m : ℕ) : Type 0 where
@@ -33,9 +34,9 @@ column-set {n} {m} {l} s v h c = record { long = rw (length-set l s v) (c .long)
         (λ e. rw (getD-set-other l s t v 0 e) (c .each t a b))
         (eq-cases t s)
 
--- Rank, enable, type, polarity, line and latch of each of n sources are in range.
-pub record Columns (n : ℕ) (r e t p l a : List ℕ) : Type 0 where
-  pub rank : Column n r 15
+-- Field, enable, type, polarity, line and latch of each of n sources are in range.
+pub record Columns (n : ℕ) (f e t p l a : List ℕ) : Type 0 where
+  pub field : Column n f 15
   pub enable : Column n e 1
   pub trigger : Column n t 1
   pub polarity : Column n p 1
@@ -43,7 +44,7 @@ pub record Columns (n : ℕ) (r e t p l a : List ℕ) : Type 0 where
   pub latch : Column n a 1
 
 abbrev pub ColumnsOf : Controller → Type 0
-ColumnsOf c = Columns (c .sources) (c .rank) (c .enable) (c .trigger) (c .polarity) (c .line) (c .latch)
+ColumnsOf c = Columns (c .sources) (c .field) (c .enable) (c .trigger) (c .polarity) (c .line) (c .latch)
 
 -- A multiple of 1,024 below 2^32.
 pub record Base (b : ℕ) : Type 0 where
@@ -55,9 +56,9 @@ pub record Ranges (n : ℕ) (v : Scalars) : Type 0 where
   pub priord : v .priord ≤ 1
   pub base : Base (v .base)
   pub claim : v .claim ≤ n
-  pub threshold : thresholdOf v .0 ≤ 15
-  pub claimed : claimedOf v .0 ≤ 15
-  pub current : currentOf v .0 ≤ 15
+  pub threshold : v .threshold .0 ≤ 15
+  pub claimed : v .claimed .0 ≤ 15
+  pub current : v .current .0 ≤ 15
 
 -- Each latch is as its line asks: set if that is active.
 abbrev pub Latched : Controller → Type 0
@@ -111,7 +112,7 @@ facts c e =
       most = leb-true _ _ (t 1);
       columns =
           record {
-            rank = record { long = ltb-true _ _ (place 0); each = λ s a b. leb-true _ _ (test s a b 0) };
+            field = record { long = ltb-true _ _ (place 0); each = λ s a b. leb-true _ _ (test s a b 0) };
             enable = record { long = ltb-true _ _ (place 1); each = λ s a b. leb-true _ _ (test s a b 1) };
             trigger = record { long = ltb-true _ _ (place 2); each = λ s a b. leb-true _ _ (test s a b 2) };
             polarity = record { long = ltb-true _ _ (place 3); each = λ s a b. leb-true _ _ (test s a b 3) };
@@ -137,8 +138,8 @@ facts c e =
     place = all-at (placeTests c) (t 0)
 
     test : (s : ℕ) → 1 ≤ s → s ≤ c .sources → (i : ℕ)
-        → getD (sourceTests (rankAt c s) (enableAt c s) (triggerAt c s) (polarityAt c s) (lineAt c s) (latchAt c s)) i true ≡ true
-    test s a b = all-at (sourceTests (rankAt c s) (enableAt c s) (triggerAt c s) (polarityAt c s) (lineAt c s) (latchAt c s)) (sources-at c (c .sources) (t 10) s a b)
+        → getD (sourceTests (fieldAt c s) (enableAt c s) (triggerAt c s) (polarityAt c s) (lineAt c s) (latchAt c s)) i true ≡ true
+    test s a b = all-at (sourceTests (fieldAt c s) (enableAt c s) (triggerAt c s) (polarityAt c s) (lineAt c s) (latchAt c s)) (sources-at c (c .sources) (t 10) s a b)
 
 -- A controller of which they hold is sound.
 pub sound : (c : Controller) → Sound c → soundOf c ≡ true
@@ -147,7 +148,7 @@ sound c h =
     let k = h .columns in
     let v = h .ranges in
     rw (
-      lt-ltb _ _ (k .rank .long),
+      lt-ltb _ _ (k .field .long),
       lt-ltb _ _ (k .enable .long),
       lt-ltb _ _ (k .trigger .long),
       lt-ltb _ _ (k .polarity .long),
@@ -169,7 +170,7 @@ sound c h =
     each s a b =
         let k = h .columns in
         rw (
-          le-leb _ _ (k .rank .each s a b),
+          le-leb _ _ (k .field .each s a b),
           le-leb _ _ (k .enable .each s a b),
           le-leb _ _ (k .trigger .each s a b),
           le-leb _ _ (k .polarity .each s a b),
@@ -177,6 +178,16 @@ sound c h =
           le-leb _ _ (k .latch .each s a b),
           test-latch _ _ _ (h .latched s a b),
         )
+
+-- Where the fields are in range, the ranks are.
+pub rank-small : (c : Controller) (s : ℕ) → Sound c → 1 ≤ s → s ≤ c .sources → rankAt c s .0 ≤ 15
+rank-small c s h a b = mirror-small (c .scalars .priord) (fieldAt c s .0) (h .columns .field .each s a b)
+
+pub threshold-small : {n : ℕ} (v : Scalars) → Ranges n v → thresholdOf v .0 ≤ 15
+threshold-small v r = mirror-small (v .priord) (v .threshold .0) (r .threshold)
+
+pub current-small : {n : ℕ} (v : Scalars) → Ranges n v → currentOf v .0 ≤ 15
+current-small v r = mirror-small (v .priord) (v .current .0) (r .current)
 
 -- Other scalars in range keep a controller sound.
 pub scalars-sound : (c : Controller) (v : Scalars) → Sound c → Ranges (c .sources) v → Sound (withScalars c v)

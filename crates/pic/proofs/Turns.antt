@@ -1,20 +1,51 @@
 -- One turn of each loop, over plain variables.
-use Prim.Native.Nat.{ℕ, _+_}
-use mathlib.Core.Path.{_≡_}
-use mathlib.Core.Bool.{Bool, _&&_}
+use Prim.Native.Nat.{ℕ, suc, _+_, _<_}
+use mathlib.Core.Path.{_≡_, refl, sym, ap, _∙_}
+use mathlib.Core.Bool.{Bool, true, false, cond, _&&_}
 use native.Mathlib.Numerals.{add-one}
+use native.Mathlib.Omega.{arith}
+use lib.Dec.{leb, eqb}
+use borrow.Author.Tests.{leb-false, le-ltb}
+use Rattle.pic_source.specs.declared.Rank.{Rank}
 use Rattle.pic.specs.declared.Winner.{Winner}
-use Rattle.pic.specs.Sources.{entryOf, betterOf, rankAt, eligibleAt, winnerTo}
+use Rattle.pic.specs.Sources.{rankAt, enableAt, pendingAt, isEligible, noWinner, entryOf, betterOf, winnerTo}
 use Rattle.pic.specs.declared.Controller.{Controller}
 use Rattle.pic.specs.Sound.{sourceSoundAt, sourcesSound}
 
-pub winner-turn : (c : Controller) (s : ℕ) {w w′ e : Winner}
-    → w ≡ winnerTo c s
-    → e ≡ entryOf (eligibleAt c (s + 1)) (s + 1) (rankAt c (s + 1))
-    → w′ ≡ betterOf w e
-    → w′ ≡ winnerTo c (s + 1)
-unfolding winnerTo
-winner-turn c s hw he hb = rw (hb, hw, he, add-one)
+-- A source of rank 0 does not pass, so it need not be asked for its rank.
+enters : (w : Winner) (s : ℕ) (r : Rank) → betterOf w (entryOf (leb 1 (r .0)) s r) ≡ betterOf w (record { source = s; rank = r })
+unfolding betterOf entryOf
+enters w s r = go (leb 1 (r .0)) refl
+  where
+    go : (t : Bool) → leb 1 (r .0) ≡ t
+        → betterOf w (cond t (record { source = s; rank = r }) noWinner) ≡ betterOf w (record { source = s; rank = r })
+    go true e = refl
+    go false e =
+        let z : r .0 < 1 = leb-false 1 (r .0) e in rw (le-ltb (w .rank .0) 0 (omega arith), le-ltb (w .rank .0) (r .0) (omega arith))
+
+-- Whether a source is enabled and pending.
+abbrev pub waitingAt : Controller → ℕ → Bool
+waitingAt c s = eqb (enableAt c s) 1 && pendingAt c s
+
+-- The next source is, and enters with its rank; or it is not, and the winner stays.
+module _ (c : Controller) (s : ℕ) where
+  with-next : Bool → Winner
+  with-next t = betterOf (winnerTo c s) (entryOf (t && leb 1 (rankAt c (suc s) .0)) (suc s) (rankAt c (suc s)))
+
+  next-enters : waitingAt c (suc s) ≡ true → winnerTo c (suc s) ≡ betterOf (winnerTo c s) (record { source = suc s; rank = rankAt c (suc s) })
+  unfolding winnerTo isEligible with-next betterOf
+  next-enters e = ap with-next e ∙ enters (winnerTo c s) (suc s) (rankAt c (suc s))
+
+  next-stays : waitingAt c (suc s) ≡ false → winnerTo c (suc s) ≡ winnerTo c s
+  unfolding winnerTo isEligible entryOf betterOf with-next
+  next-stays e = ap with-next e ∙ rw (le-ltb (winnerTo c s .rank .0) 0 (omega arith))
+
+  pub winner-turn : {w w′ : Winner} {r : Rank} {waits : Bool} → w ≡ winnerTo c s → waits ≡ waitingAt c (s + 1) → waits ≡ true → r ≡ rankAt c (s + 1)
+      → w′ ≡ betterOf w (record { source = s + 1; rank = r }) → w′ ≡ winnerTo c (s + 1)
+  winner-turn hw hs t hr hb = rw (hb, hw, hr, add-one) (sym (next-enters (rw add-one at (sym hs ∙ t))))
+
+  pub winner-stays : {w : Winner} {waits : Bool} → w ≡ winnerTo c s → waits ≡ waitingAt c (s + 1) → waits ≡ false → w ≡ winnerTo c (s + 1)
+  winner-stays hw hs f = rw (hw, add-one) (sym (next-stays (rw add-one at (sym hs ∙ f))))
 
 pub sources-turn : (c : Controller) (s : ℕ) {ok good : Bool}
     → ok ≡ sourcesSound c s

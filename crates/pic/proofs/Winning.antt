@@ -12,7 +12,7 @@ use Rattle.pic.specs.declared.Winner.{Winner}
 use Rattle.pic_source.specs.Ranks.{rank}
 use Rattle.pic.specs.Sources.{rankAt, enableAt, pendingAt, eligibleAt, winnerTo, winnerOf, Eligible, Before, IsWinner, isEligible, entryOf, betterOf}
 use Rattle.pic_source.proofs.Bools.{never, and-parts, eq-cases}
-use Rattle.pic.proofs.Soundness.{Sound}
+use Rattle.pic.proofs.Soundness.{Sound, rank-small}
 
 -- An eligible source is enabled, pending, and of rank 1 or more.
 pub eligible-parts : (c : Controller) (s : ℕ) → eligibleAt c s ≡ true → (eqb (enableAt c s) 1 ≡ true) × (pendingAt c s ≡ true) × (1 ≤ rankAt c s .0)
@@ -100,7 +100,7 @@ winner-small c h = go (winner-is c)
   where
     go : IsWinner c (c .sources) (winnerOf c) → (winnerOf c .source ≤ c .sources) × (winnerOf c .rank .0 ≤ 15)
     go (inl s) =
-        (s .eligible .most, rw (s .ranked) (h .columns .rank .each (winnerOf c .source) (s .eligible .least) (s .eligible .most)))
+        (s .eligible .most, rw (s .ranked) (rank-small c (winnerOf c .source) h (s .eligible .least) (s .eligible .most)))
     go (inr i) = rw (i .is-none) (omega arith, omega arith)
 
 -- And back.

@@ -4,6 +4,7 @@ use Prim.Native.Nat.{ℕ, _+_, _*_, _%_, _^_}
 use mathlib.Core.Bool.{Bool, cond}
 use lib.Dec.{ltb}
 use Rattle.pic_source.specs.declared.Rank.{Rank}
+use Rattle.pic_source.specs.Ranks.{fieldOf}
 use Rattle.pic.specs.declared.Controller.{Controller}
 use Rattle.pic.specs.declared.Scalars.{Scalars}
 use Rattle.pic.specs.declared.Winner.{Winner}
@@ -33,21 +34,25 @@ powerOnOf n = cond (isCount n) (accepts (initial n) 0) (refuses (initial 2) 2)
 unfoldable pub sourceCount : Controller → ℕ
 sourceCount c = c .sources
 
+-- Priord, 0 or 1: whether the higher or the lower field is the higher rank.
+unfoldable pub priorityOrder : Controller → ℕ
+priorityOrder c = c .scalars .priord
+
 -- The current rank.
 unfoldable pub currentRank : Controller → Rank
 currentRank c = currentOf (c .scalars)
 
--- The controller with another current rank, as open and return set it.
+-- The controller with another current rank, as open and return set it: meicurpl holds the field of that rank under the priord of now.
 unfoldable pub setCurrent : Controller → Rank → Controller
-setCurrent c r = withScalars c (withCurrent (c .scalars) r)
+setCurrent c r = withScalars c (withCurrent (c .scalars) (fieldOf (c .scalars .priord) r))
 
 -- meihap = base + 4 × claim, a word of 32 bits. On a sound controller the sum fits (`meihap-exact`).
 unfoldable pub meihapOf : ℕ → ℕ → ℕ
 meihapOf base claim = (base + 4 * claim) % 2 ^ 32
 
--- Claim and claimed from a winner.
+-- Claim and claimed from a winner: meicidpl holds the field of its rank under the priord of now.
 abbrev pub claimBy : Scalars → Winner → Scalars
-claimBy v w = withClaimed (withClaim v (w .source)) (w .rank)
+claimBy v w = withClaimed (withClaim v (w .source)) (fieldOf (v .priord) (w .rank))
 
 -- A capture sets claim and claimed from the winner, threshold or not. The winner is handed in, so that one look at the sources is enough.
 unfoldable pub captureOf : Controller → Winner → Controller

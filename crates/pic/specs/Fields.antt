@@ -3,13 +3,13 @@ use Prim.Native.Nat.{ℕ}
 use mathlib.Core.List.{List}
 use Rattle.pic.specs.declared.Controller.{Controller}
 use Rattle.pic.specs.declared.Scalars.{Scalars}
-use Rattle.pic_source.specs.declared.Rank.{Rank}
+use Rattle.pic_source.specs.declared.Field.{Field}
 
-abbrev pub withRank : Controller → List ℕ → Controller
-withRank m v =
+abbrev pub withField : Controller → List ℕ → Controller
+withField m v =
     record {
       sources = m .sources;
-      rank = v;
+      field = v;
       enable = m .enable;
       trigger = m .trigger;
       polarity = m .polarity;
@@ -22,7 +22,7 @@ abbrev pub withEnable : Controller → List ℕ → Controller
 withEnable m v =
     record {
       sources = m .sources;
-      rank = m .rank;
+      field = m .field;
       enable = v;
       trigger = m .trigger;
       polarity = m .polarity;
@@ -35,7 +35,7 @@ abbrev pub withTrigger : Controller → List ℕ → Controller
 withTrigger m v =
     record {
       sources = m .sources;
-      rank = m .rank;
+      field = m .field;
       enable = m .enable;
       trigger = v;
       polarity = m .polarity;
@@ -48,7 +48,7 @@ abbrev pub withPolarity : Controller → List ℕ → Controller
 withPolarity m v =
     record {
       sources = m .sources;
-      rank = m .rank;
+      field = m .field;
       enable = m .enable;
       trigger = m .trigger;
       polarity = v;
@@ -61,7 +61,7 @@ abbrev pub withLine : Controller → List ℕ → Controller
 withLine m v =
     record {
       sources = m .sources;
-      rank = m .rank;
+      field = m .field;
       enable = m .enable;
       trigger = m .trigger;
       polarity = m .polarity;
@@ -74,7 +74,7 @@ abbrev pub withLatch : Controller → List ℕ → Controller
 withLatch m v =
     record {
       sources = m .sources;
-      rank = m .rank;
+      field = m .field;
       enable = m .enable;
       trigger = m .trigger;
       polarity = m .polarity;
@@ -87,7 +87,7 @@ abbrev pub withScalars : Controller → Scalars → Controller
 withScalars m v =
     record {
       sources = m .sources;
-      rank = m .rank;
+      field = m .field;
       enable = m .enable;
       trigger = m .trigger;
       polarity = m .polarity;
@@ -129,7 +129,7 @@ withClaim s v =
       current = s .current;
     }
 
-abbrev pub withThreshold : Scalars → Rank → Scalars
+abbrev pub withThreshold : Scalars → Field → Scalars
 withThreshold s v =
     record {
       priord = s .priord;
@@ -140,7 +140,7 @@ withThreshold s v =
       current = s .current;
     }
 
-abbrev pub withClaimed : Scalars → Rank → Scalars
+abbrev pub withClaimed : Scalars → Field → Scalars
 withClaimed s v =
     record {
       priord = s .priord;
@@ -151,7 +151,7 @@ withClaimed s v =
       current = s .current;
     }
 
-abbrev pub withCurrent : Scalars → Rank → Scalars
+abbrev pub withCurrent : Scalars → Field → Scalars
 withCurrent s v =
     record {
       priord = s .priord;

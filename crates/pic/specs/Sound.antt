@@ -5,33 +5,33 @@ use mathlib.Core.List.{List, [], _∷_}
 use lib.ListN.{length, replicate}
 use lib.Dec.{leb, ltb, eqb}
 use Rattle.pic.specs.declared.Controller.{Controller}
-use Rattle.pic_source.specs.declared.Rank.{Rank}
-use Rattle.pic_source.specs.Ranks.{rank}
+use Rattle.pic_source.specs.declared.Field.{Field}
+use Rattle.pic_source.specs.Ranks.{field}
 use Rattle.pic_source.specs.Tests.{allHold}
-use Rattle.pic.specs.Sources.{rankAt, enableAt, triggerAt, polarityAt, lineAt, latchAt, thresholdOf, claimedOf, currentOf}
+use Rattle.pic.specs.Sources.{fieldAt, enableAt, triggerAt, polarityAt, lineAt, latchAt}
 
 -- Power-on with N sets all else to 0.
 abbrev pub initial : ℕ → Controller
 initial n =
     record {
       sources = n;
-      rank = replicate 256 0;
+      field = replicate 256 0;
       enable = replicate 256 0;
       trigger = replicate 256 0;
       polarity = replicate 256 0;
       line = replicate 256 0;
       latch = replicate 256 0;
-      scalars = record { priord = 0; base = 0; claim = 0; threshold = rank 0; claimed = rank 0; current = rank 0 };
+      scalars = record { priord = 0; base = 0; claim = 0; threshold = field 0; claimed = field 0; current = field 0 };
     }
 
 -- N, the number of sources, 2..255.
 abbrev pub isCount : ℕ → Bool
 isCount n = leb 2 n && leb n 255
 
--- Rank, enable, type, polarity, line and latch for every source: each array has a place for it.
+-- Field, enable, type, polarity, line and latch for every source: each array has a place for it.
 abbrev pub placeTests : Controller → List Bool
 placeTests c =
-    ltb (c .sources) (length (c .rank))
+    ltb (c .sources) (length (c .field))
     ∷ ltb (c .sources) (length (c .enable))
     ∷ ltb (c .sources) (length (c .trigger))
     ∷ ltb (c .sources) (length (c .polarity))
@@ -40,9 +40,9 @@ placeTests c =
     ∷ []
 
 -- The values of a source are in range, and its latch is set if its line is active.
-abbrev pub sourceTests : Rank → ℕ → ℕ → ℕ → ℕ → ℕ → List Bool
-sourceTests r enable trigger polarity line latch =
-    leb (r .0) 15
+abbrev pub sourceTests : Field → ℕ → ℕ → ℕ → ℕ → ℕ → List Bool
+sourceTests f enable trigger polarity line latch =
+    leb (f .0) 15
     ∷ leb enable 1
     ∷ leb trigger 1
     ∷ leb polarity 1
@@ -51,19 +51,19 @@ sourceTests r enable trigger polarity line latch =
     ∷ (eqb line polarity || eqb latch 1)
     ∷ []
 
-unfoldable pub sourceSound : Rank → ℕ → ℕ → ℕ → ℕ → ℕ → Bool
-sourceSound r enable trigger polarity line latch = allHold (sourceTests r enable trigger polarity line latch)
+unfoldable pub sourceSound : Field → ℕ → ℕ → ℕ → ℕ → ℕ → Bool
+sourceSound f enable trigger polarity line latch = allHold (sourceTests f enable trigger polarity line latch)
 
 abbrev pub sourceSoundAt : Controller → ℕ → Bool
-sourceSoundAt c s = sourceSound (rankAt c s) (enableAt c s) (triggerAt c s) (polarityAt c s) (lineAt c s) (latchAt c s)
+sourceSoundAt c s = sourceSound (fieldAt c s) (enableAt c s) (triggerAt c s) (polarityAt c s) (lineAt c s) (latchAt c s)
 
 -- So for the sources 1 to n.
 unfoldable pub sourcesSound : Controller → ℕ → Bool
 sourcesSound c zero = true
 sourcesSound c (suc n) = sourcesSound c n && sourceSoundAt c (suc n)
 
--- A controller is sound (01's word) when the values are in range, every rank is 0..15; a latch is set wherever its line is active. Base is a multiple
--- of 1,024 below 2^32; claim is a source number or 0.
+-- A controller is sound (01's word) when the values are in range, every field is 0..15, as then every rank is; a latch is set wherever its line is active. Base is a
+-- multiple of 1,024 below 2^32; claim is a source number or 0.
 abbrev pub soundTests : Controller → List Bool
 soundTests c =
     allHold (placeTests c)
@@ -73,9 +73,9 @@ soundTests c =
     ∷ leb (c .scalars .priord) 1
     ∷ eqb (c .scalars .base % 1024) 0
     ∷ leb (c .scalars .claim) (c .sources)
-    ∷ leb (thresholdOf (c .scalars) .0) 15
-    ∷ leb (claimedOf (c .scalars) .0) 15
-    ∷ leb (currentOf (c .scalars) .0) 15
+    ∷ leb (c .scalars .threshold .0) 15
+    ∷ leb (c .scalars .claimed .0) 15
+    ∷ leb (c .scalars .current .0) 15
     ∷ sourcesSound c (c .sources)
     ∷ []
 

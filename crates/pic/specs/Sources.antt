@@ -1,4 +1,4 @@
--- Document 01, "Lines, latches, winner".
+-- Document 01, "Lines, latches, winner", with the ranks of document 02, No. 4.
 use Prim.Native.Nat.{ℕ, zero, suc, _≤_, _<_}
 use mathlib.Core.Path.{_≡_}
 use mathlib.Core.Logic.{_⊎_}
@@ -9,15 +9,20 @@ use lib.IntN.{ℤ, pos, _-ℤ_}
 use Rattle.pic.specs.declared.Controller.{Controller}
 use Rattle.pic.specs.declared.Scalars.{Scalars}
 use Rattle.pic_source.specs.declared.Rank.{Rank}
+use Rattle.pic_source.specs.declared.Field.{Field}
 use Rattle.pic.specs.declared.Winner.{Winner}
 use Rattle.pic.specs.Fields.{withLatch}
-use Rattle.pic_source.specs.Ranks.{rank}
+use Rattle.pic_source.specs.Ranks.{rank, field, rankOf}
 use Rattle.pic_source.specs.Sources.{latchAfter, isPending}
 
--- Rank, enable, type (trigger here), polarity, line and latch of a source.
-abbrev pub rankAt : Controller → ℕ → Rank
-rankAt c s = rank (getD (c .rank) s 0)
+-- "meiplS, meipt, meicidpl and meicurpl hold fields; the rank is worked out from field and priord at use." The field and the rank of a source.
+abbrev pub fieldAt : Controller → ℕ → Field
+fieldAt c s = field (getD (c .field) s 0)
 
+abbrev pub rankAt : Controller → ℕ → Rank
+rankAt c s = rankOf (c .scalars .priord) (fieldAt c s)
+
+-- Enable, type (trigger here), polarity, line and latch of a source.
 abbrev pub enableAt : Controller → ℕ → ℕ
 enableAt c s = getD (c .enable) s 0
 
@@ -35,13 +40,13 @@ latchAt c s = getD (c .latch) s 0
 
 -- Three ranks: threshold (meipt), claimed (meicidpl), current (meicurpl).
 abbrev pub thresholdOf : Scalars → Rank
-thresholdOf v = v .threshold
+thresholdOf v = rankOf (v .priord) (v .threshold)
 
 abbrev pub claimedOf : Scalars → Rank
-claimedOf v = v .claimed
+claimedOf v = rankOf (v .priord) (v .claimed)
 
 abbrev pub currentOf : Scalars → Rank
-currentOf v = v .current
+currentOf v = rankOf (v .priord) (v .current)
 
 -- After each accepted event, a latch is set if its line is active, or if it was set and this event didn't clear it. Each event settles the latches that it
 -- can have changed, this one that of source s; an event that clears a latch makes it 0 first. That the sentence holds of every source after every accepted event is
@@ -112,6 +117,10 @@ higherOf a b = cond (ltb (a .0) (b .0)) b a
 unfoldable pub differenceOf : Rank → Rank → ℤ
 differenceOf a b = pos (a .0) -ℤ pos (b .0)
 
+-- A rank minus the larger of threshold and current.
+abbrev pub overOf : Controller → Rank → ℤ
+overOf c r = differenceOf r (higherOf (thresholdOf (c .scalars)) (currentOf (c .scalars)))
+
 -- The margin (01's word) is the winner's rank minus the larger of threshold and current, a signed number from −15 to 15.
 abbrev pub marginOf : Controller → ℤ
-marginOf c = differenceOf (winnerOf c .rank) (higherOf (thresholdOf (c .scalars)) (currentOf (c .scalars)))
+marginOf c = overOf c (winnerOf c .rank)

@@ -1,13 +1,15 @@
 // What the controller answers to the layers above: N, the current rank, a look at the winner, the capture; and how an event is accepted or refused.
 
 ghost use mathlib.Core.Path.{_≡_};
-ghost use Rattle.pic.specs.Sources.{differenceOf, higherOf};
-ghost use Rattle.pic.specs.Calls.{accepts, refuses, sourceCount, currentRank, setCurrent, meihapOf, captureOf, lookOf};
+ghost use Rattle.pic.specs.Sources.{differenceOf, higherOf, overOf};
+ghost use Rattle.pic.specs.Calls.{accepts, refuses, sourceCount, priorityOrder, currentRank, setCurrent, meihapOf, captureOf, lookOf};
 use crate::Controller;
 use crate::Look;
 use crate::Outcome;
 use crate::Winner;
 use pic_source::Rank;
+use pic_source::ranks::to_field;
+use pic_source::ranks::to_rank;
 
 // The larger of two ranks.
 fn higher(a: Rank, b: Rank) -> Rank
@@ -58,10 +60,18 @@ impl Controller {
         self.sources
     }
 
+    // Priord.
+    pub fn priority_order(self) -> u8
+        ensures { λ r. ⌜ r ≡ priorityOrder self ⌝ }
+    {
+        self.scalars.priord
+    }
+
     pub fn current_rank(self) -> Rank
         ensures { λ r. ⌜ r ≡ currentRank self ⌝ }
     {
-        self.scalars.current
+        let v = self.scalars;
+        to_rank(v.priord, v.current)
     }
 
     // The controller with another current rank, as the layer above sets it.
@@ -69,7 +79,7 @@ impl Controller {
         ensures { λ d. ⌜ d ≡ setCurrent self rank ⌝ }
     {
         let mut v = self.scalars;
-        v.current = rank;
+        v.current = to_field(v.priord, rank);
         self.scalars = v;
         self
     }
@@ -79,11 +89,28 @@ impl Controller {
         ensures { λ d. ⌜ d ≡ captureOf self w ⌝ }
     {
         let mut v = self.scalars;
-        let r = w.rank;
+        let f = to_field(v.priord, w.rank);
         v.claim = w.source;
-        v.claimed = r;
+        v.claimed = f;
         self.scalars = v;
         self
+    }
+
+    // A rank minus the larger of threshold and current.
+    fn over(self, rank: Rank) -> i32
+        ensures { λ r. ⌜ r ≡ overOf self rank ⌝ }
+    {
+        let v = self.scalars;
+        let threshold = to_rank(v.priord, v.threshold);
+        difference(rank, higher(threshold, self.current_rank()))
+    }
+
+    // The margin alone: the winner's number is not asked for, so the compiler need not keep it.
+    pub fn margin(self) -> i32
+        ensures { λ r. ⌜ r ≡ lookOf self .margin ⌝ }
+    {
+        let w = self.winner();
+        self.over(w.rank)
     }
 
     // All that the layer above asks of the winner, from one look.
@@ -92,10 +119,11 @@ impl Controller {
     {
         let w = self.winner();
         let v = self.scalars;
+        let threshold = to_rank(v.priord, v.threshold);
         Look {
             winner: w,
-            above: v.threshold.0 < w.rank.0,
-            margin: difference(w.rank, higher(v.threshold, v.current)),
+            above: threshold.0 < w.rank.0,
+            margin: self.over(w.rank),
             meihap: meihap(v.base, w.source),
         }
     }

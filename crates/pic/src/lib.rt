@@ -5,6 +5,7 @@ pub mod calls;
 mod sound;
 mod sources;
 
+use pic_source::Field;
 use pic_source::Rank;
 
 // What the controller holds beside its sources.
@@ -12,16 +13,18 @@ pub struct Scalars {
     pub priord: u8,
     pub base: u32,
     pub claim: u8,
-    // meipt, meicidpl and meicurpl
-    pub threshold: Rank,
-    pub claimed: Rank,
-    pub current: Rank,
+    // the fields of meipt, meicidpl and meicurpl
+    pub threshold: Field,
+    pub claimed: Field,
+    pub current: Field,
 }
 
-// The controller. The arrays are indexed by source number; places 0 and above the number of sources mean nothing.
+// The controller. The arrays are indexed by source number; places 0 and above the number of sources mean nothing. It holds fields as they were written; a rank is
+// worked out from its field and priord where it is used.
 pub struct Controller {
     pub sources: u8,
-    pub rank: [u8; 256],
+    // the field of meipl
+    pub field: [u8; 256],
     pub enable: [u8; 256],
     // 0 level, 1 edge: the type of document 01
     pub trigger: [u8; 256],

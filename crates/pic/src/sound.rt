@@ -6,13 +6,13 @@ ghost use Rattle.pic.specs.Calls.{powerOnOf};
 use crate::Controller;
 use crate::Outcome;
 use crate::Scalars;
-use pic_source::Rank;
+use pic_source::Field;
 
 // Whether the values of a source are sound.
-fn source_sound(rank: Rank, enable: u8, trigger: u8, polarity: u8, line: u8, latch: u8) -> bool
-    ensures { λ r. ⌜ r ≡ sourceSound rank enable trigger polarity line latch ⌝ }
+fn source_sound(field: Field, enable: u8, trigger: u8, polarity: u8, line: u8, latch: u8) -> bool
+    ensures { λ r. ⌜ r ≡ sourceSound field enable trigger polarity line latch ⌝ }
 {
-    (rank.0 <= 15)
+    (field.0 <= 15)
         & (enable <= 1)
         & (trigger <= 1)
         & (polarity <= 1)
@@ -29,13 +29,13 @@ fn with_sources(n: u8) -> Controller
         priord: 0,
         base: 0,
         claim: 0,
-        threshold: Rank(0),
-        claimed: Rank(0),
-        current: Rank(0),
+        threshold: Field(0),
+        claimed: Field(0),
+        current: Field(0),
     };
     Controller {
         sources: n,
-        rank: [0u8; 256],
+        field: [0u8; 256],
         enable: [0u8; 256],
         trigger: [0u8; 256],
         polarity: [0u8; 256],
@@ -75,7 +75,7 @@ impl Controller {
             s += 1;
             ok = ok
                 & source_sound(
-                    Rank(self.rank[s]),
+                    Field(self.field[s]),
                     self.enable[s],
                     self.trigger[s],
                     self.polarity[s],

@@ -9,8 +9,6 @@ use pic::Outcome;
 use pic::Scalars;
 use pic::calls::meihap;
 use pic_source::Field;
-use pic_source::ranks::to_field;
-use pic_source::ranks::to_rank;
 
 pub enum Csr {
     Meivt,
@@ -58,10 +56,10 @@ fn csr_value(s: Scalars, csr: Csr) -> u32
 {
     match csr {
         Csr::Meivt => s.base,
-        Csr::Meipt => to_field(s.priord, s.threshold).0 as u32,
+        Csr::Meipt => s.threshold.0 as u32,
         Csr::Meicpct => 0,
-        Csr::Meicidpl => to_field(s.priord, s.claimed).0 as u32,
-        Csr::Meicurpl => to_field(s.priord, s.current).0 as u32,
+        Csr::Meicidpl => s.claimed.0 as u32,
+        Csr::Meicurpl => s.current.0 as u32,
         Csr::Meihap => meihap(s.base, s.claim),
         Csr::NoCsr => 0,
     }
@@ -71,23 +69,23 @@ fn csr_value(s: Scalars, csr: Csr) -> u32
 fn csr_written(mut s: Scalars, csr: Csr, v: u32) -> Scalars
     ensures { λ d. ⌜ d ≡ csrWritten s csr v ⌝ }
 {
-    let r = to_rank(s.priord, Field((v % 16) as u8));
+    let f = Field((v % 16) as u8);
     match csr {
         Csr::Meivt => {
             s.base = v / 1024 * 1024;
             s
         }
         Csr::Meipt => {
-            s.threshold = r;
+            s.threshold = f;
             s
         }
         Csr::Meicpct => s,
         Csr::Meicidpl => {
-            s.claimed = r;
+            s.claimed = f;
             s
         }
         Csr::Meicurpl => {
-            s.current = r;
+            s.current = f;
             s
         }
         Csr::Meihap => s,

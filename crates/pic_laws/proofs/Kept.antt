@@ -1,11 +1,11 @@
 -- What the controller's calls keep: soundness, N, the current rank, and all of it where they only read or refuse.
-use Prim.Native.Nat.{ℕ, _*_, _/_, _^_, _≤_, _<_}
-use mathlib.Core.Path.{_≡_, refl}
+use Prim.Native.Nat.{ℕ, _*_, _/_, _%_, _^_, _≤_, _<_}
+use mathlib.Core.Path.{_≡_, refl, sym, ap, _∙_}
 use mathlib.Core.Bool.{Bool, true, false, cond, not}
 use native.Mathlib.Omega.{arith}
 use lib.ListN.{replicate, length-replicate, getD-replicate}
 use lib.Dec.{leb, eqb}
-use borrow.Author.Tests.{leb-true}
+use borrow.Author.Tests.{leb-true, eqb-true}
 use Rattle.pic.specs.declared.Controller.{Controller}
 use Rattle.pic.specs.declared.Scalars.{Scalars}
 use Rattle.pic.specs.declared.Outcome.{Outcome}
@@ -15,22 +15,22 @@ use Rattle.pic_registers.specs.declared.Register.the-variants.{Meipl, Meip, Mei
 use Rattle.pic_csrs.specs.declared.Csr.{Csr}
 use Rattle.pic_csrs.specs.declared.Csr.the-variants.{Meivt, Meipt, Meicpct, Meicidpl, Meicurpl, Meihap, NoCsr}
 use Rattle.pic.specs.Fields.{withScalars}
-use Rattle.pic_source.specs.Ranks.{fieldOf}
+use Rattle.pic_source.specs.Ranks.{fieldOf, rankOf}
 use Rattle.pic.specs.Sources.{currentOf, winnerOf}
 use Rattle.pic.specs.Sound.{initial, isCount, soundOf}
-use Rattle.pic.specs.Calls.{accepts, refuses, asks, powerOnOf, sourceCount, currentRank, setCurrent, captureOf, lookOf}
+use Rattle.pic.specs.Calls.{accepts, refuses, asks, powerOnOf, sourceCount, priorityOrder, currentRank, setCurrent, captureOf, lookOf}
 use Rattle.pic_registers.specs.Registers.{sampled, readOf, writtenOf}
-use Rattle.pic_registers.specs.Offsets.{registerAt, offsetRefusal}
+use Rattle.pic_registers.specs.Offsets.{offsetOf, registerAt, offsetRefusal}
 use Rattle.pic_registers.specs.Calls.{sampleOf, loadOf, storeOf}
 use Rattle.pic_csrs.specs.Addresses.{csrAt, isCsr}
 use Rattle.pic_csrs.specs.Values.{csrValue, csrWritten}
 use Rattle.pic_csrs.specs.Calls.{csrReadOf, writtenTo, csrWriteOf}
 use Rattle.pic_source.proofs.Bools.{and-parts}
-use Rattle.pic_source.proofs.Mirror.{rank-written}
+use Rattle.pic_source.proofs.Mirror.{mirror-small, rank-of-field, field-written}
 use Rattle.pic.proofs.Soundness.{Column, Base, Ranges, Sound, facts, sound, scalars-sound}
 use Rattle.pic.proofs.Winning.{winner-small}
-use Rattle.pic_registers.proofs.Offsets.{register-valid}
-use Rattle.pic_registers.proofs.Sounds.{written-rank, sampled-sound, written-sound}
+use Rattle.pic_registers.proofs.Offsets.{register-valid, register-offset, no-mpiccfg, aligned}
+use Rattle.pic_registers.proofs.Sounds.{written-field, sampled-sound, written-sound}
 use Rattle.pic_csrs.proofs.Addresses.{csr-address}
 
 -- A question: what holds of the controller that was handed in, and of what goes on, holds of the answer.
@@ -47,12 +47,12 @@ unfolding csrWritten
 csr-ranges n s Meivt v b h =
     record { priord = h .priord; base = base-written v b; claim = h .claim; threshold = h .threshold; claimed = h .claimed; current = h .current }
 csr-ranges n s Meipt v b h =
-    record { priord = h .priord; base = h .base; claim = h .claim; threshold = written-rank (s .priord) v; claimed = h .claimed; current = h .current }
+    record { priord = h .priord; base = h .base; claim = h .claim; threshold = written-field v; claimed = h .claimed; current = h .current }
 csr-ranges n s Meicpct v b h = h
 csr-ranges n s Meicidpl v b h =
-    record { priord = h .priord; base = h .base; claim = h .claim; threshold = h .threshold; claimed = written-rank (s .priord) v; current = h .current }
+    record { priord = h .priord; base = h .base; claim = h .claim; threshold = h .threshold; claimed = written-field v; current = h .current }
 csr-ranges n s Meicurpl v b h =
-    record { priord = h .priord; base = h .base; claim = h .claim; threshold = h .threshold; claimed = h .claimed; current = written-rank (s .priord) v }
+    record { priord = h .priord; base = h .base; claim = h .claim; threshold = h .threshold; claimed = h .claimed; current = written-field v }
 csr-ranges n s Meihap v b h = h
 csr-ranges n s NoCsr v b h = h
 
@@ -62,7 +62,7 @@ winner-captured c h =
     let r = h .ranges in
     let w = winner-small c h in
     scalars-sound c _ h
-    (record { priord = r .priord; base = r .base; claim = w .0; threshold = r .threshold; claimed = w .1; current = r .current })
+    (record { priord = r .priord; base = r .base; claim = w .0; threshold = r .threshold; claimed = mirror-small (c .scalars .priord) (winnerOf c .rank .0) (w .1); current = r .current })
 
 csr-sound : (c : Controller) (a v : ℕ) → v < 2 ^ 32 → Sound c → Sound (writtenTo c a v)
 csr-sound c a v b h = go (eqb a 0xBCA)
@@ -103,7 +103,7 @@ module _ (c : Controller) (e : soundOf c ≡ true) where
       let v = k .ranges in
       sound (setCurrent c r)
       (scalars-sound c _ k
-      (record { priord = v .priord; base = v .base; claim = v .claim; threshold = v .threshold; claimed = v .claimed; current = h }))
+      (record { priord = v .priord; base = v .base; claim = v .claim; threshold = v .threshold; claimed = v .claimed; current = mirror-small (c .scalars .priord) (r .0) h }))
 
 -- Power-on is sound, also with an N that it refuses.
 zeros : (n m : ℕ) → n ≤ 255 → Column n (replicate 256 0) m
@@ -116,7 +116,7 @@ initial-sound n a b =
       least = a;
       most = b;
       columns =
-          record { rank = zeros n 15 b; enable = zeros n 1 b; trigger = zeros n 1 b; polarity = zeros n 1 b; line = zeros n 1 b; latch = zeros n 1 b };
+          record { field = zeros n 15 b; enable = zeros n 1 b; trigger = zeros n 1 b; polarity = zeros n 1 b; line = zeros n 1 b; latch = zeros n 1 b };
       ranges =
           record {
             priord = omega arith;
@@ -146,10 +146,17 @@ module _ {A : Type 0} (part : Controller → A) where
   unfolding sampleOf
   same-sample c x v h = ask-keeps (SamePart c) c (leb x 7) 9 (accepts (sampled c x v) 0) refl h
 
-  same-store : (c : Controller) (o v : ℕ) → ((r : Register) → part (writtenOf c r v) ≡ part c) → part (storeOf c o v .controller) ≡ part c
+  -- A store to the register whose offset it is.
+  pub same-store : (c : Controller) (o v : ℕ) → ((r : Register) → ((r ≡ NoRegister → ⊥) → offsetOf r ≡ o) → part (writtenOf c r v) ≡ part c)
+      → part (storeOf c o v .controller) ≡ part c
   unfolding storeOf
-  same-store c o v h =
-      ask-keeps (SamePart c) c (eqb (offsetRefusal o) 0) (offsetRefusal o) (accepts (writtenOf c (registerAt (c .sources) o) v) 0) refl (h (registerAt (c .sources) o))
+  same-store c o v h = go (eqb (offsetRefusal o) 0) refl
+    where
+      go : (t : Bool) → eqb (offsetRefusal o) 0 ≡ t → part (asks c t (offsetRefusal o) (accepts (writtenOf c (registerAt (c .sources) o) v) 0) .controller) ≡ part c
+      go true f =
+          h (registerAt (c .sources) o)
+          (λ d. register-offset (c .sources) o (registerAt (c .sources) o) (aligned o (eqb-true (offsetRefusal o) 0 f)) refl d)
+      go false f = refl
 
   pub same-csr-write : (c : Controller) (a v : ℕ) → part (captureOf c (winnerOf c)) ≡ part c
       → part (withScalars c (csrWritten (c .scalars) (csrAt a) v)) ≡ part c → part (csrWriteOf c a v .controller) ≡ part c
@@ -162,16 +169,26 @@ module _ {A : Type 0} (part : Controller → A) where
       go true = g
       go false = h
 
--- N and the current rank, as a store leaves them.
-stored : (c : Controller) (v : ℕ) (r : Register) → (sourceCount (writtenOf c r v) ≡ sourceCount c) × (currentRank (writtenOf c r v) ≡ currentRank c)
-unfolding writtenOf sourceCount currentRank
-stored c v (Meipl s) = (refl, refl)
-stored c v (Meip x) = (refl, refl)
-stored c v (Meie s) = (refl, refl)
-stored c v Mpiccfg = (refl, refl)
-stored c v (Meigwctrl s) = (refl, refl)
-stored c v (Meigwclr s) = (refl, refl)
-stored c v NoRegister = (refl, refl)
+-- N and the current rank, as a store leaves them that does not switch priord.
+stored-count : (c : Controller) (v : ℕ) (r : Register) → sourceCount (writtenOf c r v) ≡ sourceCount c
+unfolding writtenOf sourceCount
+stored-count c v (Meipl s) = refl
+stored-count c v (Meip x) = refl
+stored-count c v (Meie s) = refl
+stored-count c v Mpiccfg = refl
+stored-count c v (Meigwctrl s) = refl
+stored-count c v (Meigwclr s) = refl
+stored-count c v NoRegister = refl
+
+stored-current : (c : Controller) (v : ℕ) (r : Register) → (r ≡ Mpiccfg → v % 2 ≡ priorityOrder c) → currentRank (writtenOf c r v) ≡ currentRank c
+unfolding writtenOf currentRank priorityOrder
+stored-current c v (Meipl s) h = refl
+stored-current c v (Meip x) h = refl
+stored-current c v (Meie s) h = refl
+stored-current c v Mpiccfg h = ap (λ (p : ℕ). rankOf p (c .scalars .current)) (h refl)
+stored-current c v (Meigwctrl s) h = refl
+stored-current c v (Meigwclr s) h = refl
+stored-current c v NoRegister h = refl
 
 csr-current : (s : Scalars) (v : ℕ) (r : Csr) → (r ≡ Meicurpl → ⊥) → currentOf (csrWritten s r v) ≡ currentOf s
 unfolding csrWritten
@@ -183,25 +200,38 @@ csr-current s v Meicurpl d = absurd (d refl)
 csr-current s v Meihap d = refl
 csr-current s v NoCsr d = refl
 
+-- No CSR write changes priord.
+pub csr-priord : (s : Scalars) (v : ℕ) (r : Csr) → csrWritten s r v .priord ≡ s .priord
+unfolding csrWritten
+csr-priord s v Meivt = refl
+csr-priord s v Meipt = refl
+csr-priord s v Meicpct = refl
+csr-priord s v Meicidpl = refl
+csr-priord s v Meicurpl = refl
+csr-priord s v Meihap = refl
+csr-priord s v NoCsr = refl
+
 -- Every call keeps N.
 pub sample-count : (c : Controller) (x v : ℕ) → sourceCount (sampleOf c x v .controller) ≡ sourceCount c
 unfolding sourceCount
 sample-count c x v = same-sample sourceCount c x v refl
 
 pub store-count : (c : Controller) (o v : ℕ) → sourceCount (storeOf c o v .controller) ≡ sourceCount c
-store-count c o v = same-store sourceCount c o v (λ r. stored c v r .0)
+store-count c o v = same-store sourceCount c o v (λ r k. stored-count c v r)
 
 pub csr-write-count : (c : Controller) (a v : ℕ) → sourceCount (csrWriteOf c a v .controller) ≡ sourceCount c
 unfolding sourceCount captureOf
 csr-write-count c a v = same-csr-write sourceCount c a v refl refl
 
--- Every call but a write of meicurpl keeps the current rank.
+-- Every call but a write of meicurpl and a store that switches priord keeps the current rank.
 pub sample-current : (c : Controller) (x v : ℕ) → currentRank (sampleOf c x v .controller) ≡ currentRank c
 unfolding currentRank
 sample-current c x v = same-sample currentRank c x v refl
 
-pub store-current : (c : Controller) (o v : ℕ) → currentRank (storeOf c o v .controller) ≡ currentRank c
-store-current c o v = same-store currentRank c o v (λ r. stored c v r .1)
+pub store-current : (c : Controller) (o v : ℕ) → (o ≡ 0x3000 → v % 2 ≡ priorityOrder c) → currentRank (storeOf c o v .controller) ≡ currentRank c
+store-current c o v h =
+    same-store currentRank c o v
+    (λ r k. stored-current c v r (λ z. h (sym (k (λ n. no-mpiccfg (sym z ∙ n))) ∙ ap offsetOf z)))
 
 pub csr-write-current : (c : Controller) (a v : ℕ) → (a ≡ 0xBCC → ⊥) → currentRank (csrWriteOf c a v .controller) ≡ currentRank c
 unfolding currentRank captureOf
@@ -225,14 +255,14 @@ pub current-count : (c : Controller) (r : Rank) → sourceCount (setCurrent c r)
 unfolding sourceCount setCurrent
 current-count c r = refl
 
-pub current-is : (c : Controller) (r : Rank) → currentRank (setCurrent c r) ≡ r
+pub current-is : (c : Controller) (r : Rank) → r .0 ≤ 15 → currentRank (setCurrent c r) ≡ r
 unfolding currentRank setCurrent
-current-is c r = refl
+current-is c r h = rank-of-field (c .scalars .priord) r h
 
 -- A write to meicurpl of a rank's field makes that rank the current one, and changes nothing else.
 pub current-written : (c : Controller) (r : Rank) → r .0 ≤ 15 → csrWriteOf c 0xBCC (fieldOf (c .scalars .priord) r .0) ≡ accepts (setCurrent c r) 0
 unfolding csrWriteOf csrAt csrWritten setCurrent
-current-written c r h = rw (rank-written (c .scalars .priord) r h)
+current-written c r h = rw (field-written (c .scalars .priord) r h)
 
 -- A load and a CSR read change nothing.
 pub load-same : (c : Controller) (o : ℕ) → loadOf c o .controller ≡ c

@@ -4,3 +4,4 @@ pub mod Captures
 pub mod Sources
 pub mod Values
 pub mod Csrs
+pub mod Orders

@@ -1,4 +1,4 @@
--- The latches and the ranks of the sources after a call, source by source.
+-- The latches and the fields of the sources after a call, source by source, and priord.
 use Prim.Native.Nat.{ℕ, _+_, _*_, _%_, _≤_}
 use mathlib.Core.Path.{_≡_, refl, sym, ap, _∙_}
 use mathlib.Core.Bool.{Bool, true, false, cond, not, _&&_}
@@ -7,42 +7,48 @@ use mathlib.Core.Logic.{_⊎_, inl, inr}
 use native.Mathlib.Omega.{arith}
 use lib.ListN.{getD}
 use lib.Seq.{getD-set-same}
-use lib.Dec.{leb, ltb, eqb}
+use lib.Dec.{leb, eqb}
 use borrow.Author.Tests.{eqb-true, eqb-false, eq-eqb, ne-eqb, le-leb}
 use Rattle.pic.specs.declared.Controller.{Controller}
+use Rattle.pic.specs.declared.Scalars.{Scalars}
 use Rattle.pic.specs.declared.Outcome.{Outcome}
 use Rattle.pic.specs.declared.Winner.{Winner}
 use Rattle.pic_source.specs.declared.Rank.{Rank}
-use Rattle.pic_source.specs.Ranks.{rank, mirror}
+use Rattle.pic_source.specs.declared.Field.{Field}
+use Rattle.pic_source.specs.Ranks.{field, mirror}
 use Rattle.pic_source.specs.Sources.{isSource, latchAfter}
 use Rattle.pic_registers.specs.declared.Register.{Register}
 use Rattle.pic_registers.specs.declared.Register.the-variants.{Meipl, Meip, Meie, Mpiccfg, Meigwctrl, Meigwclr, NoRegister}
-use Rattle.pic.specs.Sources.{rankAt, enableAt, pendingAt, eligibleAt, isEligible, latchAt}
+use Rattle.pic.specs.Sources.{fieldAt, rankAt, enableAt, pendingAt, eligibleAt, isEligible, latchAt}
 use Rattle.pic.specs.Sound.{soundOf}
-use Rattle.pic.specs.Calls.{accepts, asks, sourceCount, setCurrent, captureOf}
+use Rattle.pic.specs.Calls.{accepts, asks, sourceCount, priorityOrder, setCurrent, captureOf}
 use Rattle.pic_registers.specs.Registers.{sampled, writtenOf, clears}
-use Rattle.pic_registers.specs.Offsets.{registerAt, offsetRefusal}
+use Rattle.pic_registers.specs.Offsets.{offsetOf, registerAt, offsetRefusal}
 use Rattle.pic_registers.specs.Calls.{sampleOf, storeOf}
+use Rattle.pic_csrs.specs.Addresses.{csrAt}
 use Rattle.pic_csrs.specs.Calls.{csrWriteOf}
 use Rattle.pic_source.proofs.Bools.{never, eq-cases}
 use Rattle.pic.proofs.Soundness.{facts}
-use Rattle.pic_registers.proofs.Offsets.{offset-register, register-offset, register-valid, no-meipl, meipl-at, meipl-accepted}
-use Rattle.pic_registers.proofs.Follow.{Follows, sample-latch, store-latch, store-rank}
-use Rattle.pic_laws.proofs.Kept.{ask-keeps, same-csr-write}
+use Rattle.pic_registers.proofs.Offsets.{offset-register, register-offset, register-valid, no-meipl, no-mpiccfg, meipl-at, meipl-accepted, aligned}
+use Rattle.pic_registers.proofs.Follow.{Follows, sample-latch, store-latch, store-field, store-scalars}
+use Rattle.pic_laws.proofs.Kept.{ask-keeps, same-store, same-csr-write, csr-priord}
 
--- The arrays that the laws below look at.
+-- The arrays that the laws below look at, and priord.
 pub record Arrays : Type 0 where
-  pub rank : List ℕ
+  pub priord : ℕ
+  pub field : List ℕ
   pub polarity : List ℕ
   pub line : List ℕ
   pub latch : List ℕ
 
 abbrev pub arraysOf : Controller → Arrays
-arraysOf c = record { rank = c .rank; polarity = c .polarity; line = c .line; latch = c .latch }
+arraysOf c = record { priord = c .scalars .priord; field = c .field; polarity = c .polarity; line = c .line; latch = c .latch }
 
 pub csr-write-arrays : (c : Controller) (a v : ℕ) → arraysOf (csrWriteOf c a v .controller) ≡ arraysOf c
 unfolding captureOf
-csr-write-arrays c a v = same-csr-write arraysOf c a v refl refl
+csr-write-arrays c a v =
+    same-csr-write arraysOf c a v refl
+    (ap (λ (p : ℕ). record { priord = p; field = c .field; polarity = c .polarity; line = c .line; latch = c .latch }) (csr-priord (c .scalars) v (csrAt a)))
 
 pub capture-arrays : (c : Controller) (w : Winner) → arraysOf (captureOf c w) ≡ arraysOf c
 unfolding captureOf
@@ -52,42 +58,43 @@ pub current-arrays : (c : Controller) (r : Rank) → arraysOf (setCurrent c r) �
 unfolding setCurrent
 current-arrays c r = refl
 
--- Where the arrays stay, each latch of a sound controller follows its line, and each rank stays.
+-- Where these stay, each latch of a sound controller follows its line, and each field and priord stay.
 pub arrays-follow : (c d : Controller) → soundOf c ≡ true → arraysOf d ≡ arraysOf c → (s : ℕ) → 1 ≤ s → s ≤ sourceCount c → Follows d s (latchAt c s)
 unfolding sourceCount
 arrays-follow c d e h s a b =
     ap (λ (z : Arrays). getD (z .latch) s 0) h ∙ sym (facts c e .latched s a b)
     ∙ ap (λ (z : Arrays). latchAfter (getD (z .line) s 0) (getD (z .polarity) s 0) (latchAt c s)) (sym h)
 
-pub arrays-rank : (c d : Controller) → arraysOf d ≡ arraysOf c → (s : ℕ) → rankAt d s ≡ rankAt c s
-arrays-rank c d h s = ap (λ (z : Arrays). rank (getD (z .rank) s 0)) h
+-- What a call that is a store to this offset, or none, leaves: the field of source s, but for a store to its meipl; priord, but for a store to mpiccfg.
+pub record Stays (store : Type 0) (o s : ℕ) (c d : Controller) : Type 0 where
+  pub field : (store → o ≡ 4 * s → ⊥) → fieldAt d s ≡ fieldAt c s
+  pub priord : (store → o ≡ 0x3000 → ⊥) → priorityOrder d ≡ priorityOrder c
 
--- An offset that passes 10 and 11 is a multiple of 4.
-aligned : (o : ℕ) → offsetRefusal o ≡ 0 → o % 4 ≡ 0
-unfolding offsetRefusal
-aligned o = go (ltb o 0x8000) (eqb (o % 4) 0) refl
-  where
-    go : (t u : Bool) → eqb (o % 4) 0 ≡ u → _≡_ {A = ℕ} (cond t (cond u 0 11) 10) 0 → o % 4 ≡ 0
-    go true true f z = eqb-true (o % 4) 0 f
-    go true false f z = absurd (omega arith)
-    go false u f z = absurd (omega arith)
+module _ {store : Type 0} {o : ℕ} (c : Controller) (s : ℕ) where
+  pub arrays-stay : (d : Controller) → arraysOf d ≡ arraysOf c → Stays store o s c d
+  unfolding priorityOrder
+  arrays-stay d h = record { field = λ z. ap (λ (a : Arrays). field (getD (a .field) s 0)) h; priord = λ z. ap (λ (a : Arrays). a .priord) h }
 
--- A store changes no rank but that of its own register.
-pub store-rank-kept : (c : Controller) (o v s : ℕ) → (o ≡ 4 * s → ⊥) → rankAt (storeOf c o v .controller) s ≡ rankAt c s
-unfolding storeOf
-store-rank-kept c o v s d = go (eqb (offsetRefusal o) 0) refl
-  where
-    go : (t : Bool) → eqb (offsetRefusal o) 0 ≡ t
-        → rankAt (asks c t (offsetRefusal o) (accepts (writtenOf c (registerAt (c .sources) o) v) 0) .controller) s ≡ rankAt c s
-    go true f =
-        store-rank c (registerAt (c .sources) o) v s
-        (λ z. d (sym (register-offset (c .sources) o (Meipl s) (aligned o (eqb-true (offsetRefusal o) 0 f)) z no-meipl)))
-    go false f = refl
+  pub sample-stays : (x v : ℕ) → Stays store o s c (sampleOf c x v .controller)
+  unfolding sampleOf priorityOrder
+  sample-stays x v =
+      ask-keeps (Stays store o s c) c (leb x 7) 9 (accepts (sampled c x v) 0) (arrays-stay c refl) (record { field = λ z. refl; priord = λ z. refl })
 
--- A sample changes no rank.
-pub sample-rank-kept : (c : Controller) (x v s : ℕ) → rankAt (sampleOf c x v .controller) s ≡ rankAt c s
-unfolding sampleOf
-sample-rank-kept c x v s = ask-keeps (λ d. rankAt d s ≡ rankAt c s) c (leb x 7) 9 (accepts (sampled c x v) 0) refl refl
+  pub store-stays : (v : ℕ) → store → Stays store o s c (storeOf c o v .controller)
+  unfolding priorityOrder
+  store-stays v is =
+      record {
+        field = λ d.
+            same-store (λ (a : Controller). fieldAt a s) c o v
+            (λ r k. store-field c r v s (λ z. d is (sym (k (λ n. no-meipl (sym z ∙ n))) ∙ ap offsetOf z)));
+        priord = λ d.
+            same-store priorityOrder c o v
+            (λ r k. ap (λ (a : Scalars). a .priord) (store-scalars c r v (λ z. d is (sym (k (λ n. no-mpiccfg (sym z ∙ n))) ∙ ap offsetOf z))));
+      }
+
+pub count-most : (c : Controller) → soundOf c ≡ true → sourceCount c ≤ 255
+unfolding sourceCount
+count-most c e = facts c e .most
 
 -- What an accepted call does to the latch of source s.
 abbrev AcceptedFollows : ℕ → ℕ → Outcome → Type 0
@@ -146,14 +153,21 @@ module _ (c : Controller) (e : soundOf c ≡ true) (s : ℕ) (a : 1 ≤ s) (b : 
           (store-latch c (registerAt (c .sources) o) v (facts c e) (register-valid (c .sources) o) s a here)
       go false f z = absurd (eqb-false (offsetRefusal o) 0 f z)
 
-  -- K2: with priord 1 field 15 is rank 0, and a source of rank 0 is not eligible.
-  pub field-15-stored : c .scalars .priord ≡ 1 → eligibleAt (storeOf c (4 * s) 15 .controller) s ≡ false
-  unfolding storeOf writtenOf isEligible mirror
-  field-15-stored p =
+  -- A store to its meipl makes the field of a source the value's bits 3:0.
+  pub field-stored : (v : ℕ) → fieldAt (storeOf c (4 * s) v .controller) s ≡ field (v % 16)
+  unfolding storeOf writtenOf
+  field-stored v =
       let n = facts c e .most in
-      rw (meipl-accepted (c .sources) s n is-source, meipl-at (c .sources) s n is-source, p, getD-set-same (c .rank) s 0 0 (omega (arith, facts c e .columns .rank .long, here))) (none (eqb (enableAt c s) 1) (pendingAt c s))
-    where
-      none : (x y : Bool) → x && y && false ≡ false
-      none true true = refl
-      none true false = refl
-      none false y = refl
+      rw (meipl-accepted (c .sources) s n is-source, meipl-at (c .sources) s n is-source, getD-set-same (c .field) s (v % 16) 0 (omega (arith, facts c e .columns .field .long, here)))
+
+-- K2: with priord 1 field 15 is rank 0, and a source of rank 0 is not eligible.
+pub field-15 : (c : Controller) (s : ℕ) → priorityOrder c ≡ 1 → fieldAt c s ≡ field 15 → eligibleAt c s ≡ false
+unfolding priorityOrder isEligible mirror
+field-15 c s p f =
+    let z : rankAt c s .0 ≡ 0 = ap (λ (a : ℕ). mirror a (fieldAt c s .0)) p ∙ ap (λ (a : Field). mirror 1 (a .0)) f in
+    ap (λ (a : ℕ). eqb (enableAt c s) 1 && pendingAt c s && leb 1 a) z ∙ none (eqb (enableAt c s) 1) (pendingAt c s)
+  where
+    none : (x y : Bool) → x && y && false ≡ false
+    none true true = refl
+    none true false = refl
+    none false y = refl

@@ -1,18 +1,16 @@
--- What a sound controller reads: a rank field is 0..15, and meivt a multiple of 1,024.
+-- What a sound controller reads: a field is 0..15, and meivt a multiple of 1,024.
 use Prim.Native.Nat.{ℕ, _*_, _%_, _≤_}
 use mathlib.Core.Path.{_≡_}
 use mathlib.Core.Bool.{true}
 use borrow.Author.Tests.{le-leb}
 use Rattle.pic.specs.declared.Controller.{Controller}
 use Rattle.pic_source.specs.Sources.{isSource}
-use Rattle.pic.specs.Sources.{thresholdOf, claimedOf, currentOf}
 use Rattle.pic.specs.Sound.{soundOf}
 use Rattle.pic.specs.Calls.{sourceCount}
 use Rattle.pic_registers.specs.Calls.{loadOf}
 use Rattle.pic_csrs.specs.Addresses.{csrAt}
 use Rattle.pic_csrs.specs.Values.{csrValue}
 use Rattle.pic_csrs.specs.Calls.{csrReadOf}
-use Rattle.pic_source.proofs.Mirror.{mirror-small}
 use Rattle.pic.proofs.Soundness.{facts}
 use Rattle.pic_registers.proofs.Offsets.{meipl-at, meipl-accepted}
 use Rattle.pic_registers.proofs.Follow.{read-field}
@@ -27,15 +25,15 @@ module _ (c : Controller) (e : soundOf c ≡ true) where
 
   pub read-meipt : csrReadOf c 0xBC9 .answer ≤ 15
   unfolding csrReadOf csrAt csrValue
-  read-meipt = mirror-small (c .scalars .priord) (thresholdOf (c .scalars) .0) (facts c e .ranges .threshold)
+  read-meipt = facts c e .ranges .threshold
 
   pub read-meicidpl : csrReadOf c 0xBCB .answer ≤ 15
   unfolding csrReadOf csrAt csrValue
-  read-meicidpl = mirror-small (c .scalars .priord) (claimedOf (c .scalars) .0) (facts c e .ranges .claimed)
+  read-meicidpl = facts c e .ranges .claimed
 
   pub read-meicurpl : csrReadOf c 0xBCC .answer ≤ 15
   unfolding csrReadOf csrAt csrValue
-  read-meicurpl = mirror-small (c .scalars .priord) (currentOf (c .scalars) .0) (facts c e .ranges .current)
+  read-meicurpl = facts c e .ranges .current
 
   pub read-meivt : csrReadOf c 0xBC8 .answer % 1024 ≡ 0
   unfolding csrReadOf csrAt csrValue

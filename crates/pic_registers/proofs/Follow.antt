@@ -1,4 +1,4 @@
--- The latches and the ranks after a sample and after a store, source by source, and what a rank's register reads.
+-- The latches and the fields after a sample and after a store, source by source, the scalars after a store, and what a field's register reads.
 use Prim.Native.Nat.{ℕ, _/_, _%_, _≤_, _<_}
 use mathlib.Core.Path.{_≡_, refl, sym, ap}
 use mathlib.Core.Bool.{true, cond}
@@ -14,12 +14,11 @@ use Rattle.pic_registers.specs.declared.Register.the-variants.{Meipl, Me
 use Rattle.pic.specs.declared.Controller.{Controller}
 use Rattle.pic.specs.Fields.{withTrigger, withPolarity, withLatch}
 use Rattle.pic_source.specs.Sources.{isSource, latchAfter}
-use Rattle.pic.specs.Sources.{rankAt, polarityAt, lineAt, latchAt, settleAt}
+use Rattle.pic.specs.Sources.{fieldAt, polarityAt, lineAt, latchAt, settleAt}
 use Rattle.pic_registers.specs.Words.{sourceOf}
 use Rattle.pic_registers.specs.Offsets.{isRegister}
 use Rattle.pic_registers.specs.Registers.{sampled, readOf, writtenOf, clears}
 use Rattle.pic_source.proofs.Bools.{eq-cases}
-use Rattle.pic_source.proofs.Mirror.{mirror-small}
 use Rattle.pic_source.proofs.Ranges.{source-range}
 use Rattle.pic.proofs.Soundness.{Sound}
 use Rattle.pic_registers.proofs.Words.{line-sampled, line-kept, latch-sampled, latch-kept}
@@ -78,18 +77,29 @@ store-latch c (Meigwclr t) v h i s a b =
     (λ n. rw (getD-set-other (c .latch) t s 0 0 n) (h .latched s a b)))
 store-latch c NoRegister v h i s a b = sym (h .latched s a b)
 
--- A store changes no rank but that of its own register.
-pub store-rank : (c : Controller) (r : Register) (v s : ℕ) → (r ≡ Meipl s → ⊥) → rankAt (writtenOf c r v) s ≡ rankAt c s
+-- A store changes no field but that of its own register,
+pub store-field : (c : Controller) (r : Register) (v s : ℕ) → (r ≡ Meipl s → ⊥) → fieldAt (writtenOf c r v) s ≡ fieldAt c s
 unfolding writtenOf
-store-rank c (Meipl t) v s d = rw (getD-set-other (c .rank) t s _ 0 (λ e. d (ap Meipl (sym e))))
-store-rank c (Meip x) v s d = refl
-store-rank c (Meie t) v s d = refl
-store-rank c Mpiccfg v s d = refl
-store-rank c (Meigwctrl t) v s d = refl
-store-rank c (Meigwclr t) v s d = refl
-store-rank c NoRegister v s d = refl
+store-field c (Meipl t) v s d = rw (getD-set-other (c .field) t s (v % 16) 0 (λ e. d (ap Meipl (sym e))))
+store-field c (Meip x) v s d = refl
+store-field c (Meie t) v s d = refl
+store-field c Mpiccfg v s d = refl
+store-field c (Meigwctrl t) v s d = refl
+store-field c (Meigwclr t) v s d = refl
+store-field c NoRegister v s d = refl
 
--- A rank's field reads as 0..15.
+-- and no scalar but priord, where it is to mpiccfg.
+pub store-scalars : (c : Controller) (r : Register) (v : ℕ) → (r ≡ Mpiccfg → ⊥) → writtenOf c r v .scalars ≡ c .scalars
+unfolding writtenOf
+store-scalars c (Meipl t) v d = refl
+store-scalars c (Meip x) v d = refl
+store-scalars c (Meie t) v d = refl
+store-scalars c Mpiccfg v d = absurd (d refl)
+store-scalars c (Meigwctrl t) v d = refl
+store-scalars c (Meigwclr t) v d = refl
+store-scalars c NoRegister v d = refl
+
+-- A field reads as 0..15.
 pub read-field : (c : Controller) (s : ℕ) → Sound c → isSource (c .sources) s ≡ true → readOf c (Meipl s) ≤ 15
 unfolding readOf
-read-field c s h i = let r = source-range (c .sources) s i in mirror-small (c .scalars .priord) (rankAt c s .0) (h .columns .rank .each s (r .0) (r .1))
+read-field c s h i = let r = source-range (c .sources) s i in h .columns .field .each s (r .0) (r .1)

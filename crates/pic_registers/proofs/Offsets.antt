@@ -109,3 +109,17 @@ meipl-accepted n s h i =
     let r = source-range n s i in
     let m : 4 * s % 4 ≡ 0 = omega arith in
     rw (lt-ltb (4 * s) 0x8000 (omega arith), m)
+
+-- mpiccfg is a register.
+pub no-mpiccfg : Mpiccfg ≡ NoRegister → ⊥
+no-mpiccfg f = let z : _≡_ {A = ℕ} 0 1 = cc in omega arith
+
+-- An offset that passes 10 and 11 is a multiple of 4.
+pub aligned : (o : ℕ) → offsetRefusal o ≡ 0 → o % 4 ≡ 0
+unfolding offsetRefusal
+aligned o = go (ltb o 0x8000) (eqb (o % 4) 0) refl
+  where
+    go : (t u : Bool) → eqb (o % 4) 0 ≡ u → _≡_ {A = ℕ} (cond t (cond u 0 11) 10) 0 → o % 4 ≡ 0
+    go true true f z = eqb-true (o % 4) 0 f
+    go true false f z = absurd (omega arith)
+    go false u f z = absurd (omega arith)

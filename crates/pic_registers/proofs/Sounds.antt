@@ -14,8 +14,7 @@ use Rattle.pic_source.specs.Sources.{isSource, latchAfter}
 use Rattle.pic.specs.Sources.{polarityAt, lineAt, latchAt}
 use Rattle.pic_registers.specs.Words.{bitOf, sourceOf, placesTo}
 use Rattle.pic_registers.specs.Offsets.{isRegister}
-use Rattle.pic_registers.specs.Registers.{latchSampled, sampled, writtenRank, writtenOf}
-use Rattle.pic_source.proofs.Mirror.{mirror-small}
+use Rattle.pic_registers.specs.Registers.{latchSampled, sampled, writtenOf}
 use Rattle.pic_source.proofs.Ranges.{source-range}
 use Rattle.pic.proofs.Latches.{after-after, after-small}
 use Rattle.pic.proofs.Soundness.{Column, column-set, Sound, scalars-sound, columns-sound}
@@ -25,8 +24,8 @@ use Rattle.pic_registers.proofs.Follow.{sample-latch, store-latch}
 small : (v : ℕ) → v % 2 ≤ 1
 small v = omega arith
 
-pub written-rank : (priord v : ℕ) → writtenRank priord v .0 ≤ 15
-written-rank priord v = mirror-small priord (v % 16) (omega arith)
+pub written-field : (v : ℕ) → v % 16 ≤ 15
+written-field v = omega arith
 
 -- An array whose places of word x take values in range.
 places-column : {n m : ℕ} {l : List ℕ} (x : ℕ) (f : ℕ → ℕ) → ((y : ℕ) → isSource n (sourceOf x y) ≡ true → f y ≤ m) → Column n l m
@@ -56,7 +55,7 @@ sampled-sound c x v h =
     let k = h .columns in
     columns-sound c (sampled c x v) h refl refl
     (record {
-      rank = k .rank;
+      field = k .field;
       enable = k .enable;
       trigger = k .trigger;
       polarity = k .polarity;
@@ -77,7 +76,7 @@ written-sound c (Meipl s) v i h =
     let k = h .columns in
     columns-sound c (writtenOf c (Meipl s) v) h refl refl
     (record {
-      rank = column-set s (writtenRank (c .scalars .priord) v .0) (written-rank (c .scalars .priord) v) (k .rank);
+      field = column-set s (v % 16) (written-field v) (k .field);
       enable = k .enable;
       trigger = k .trigger;
       polarity = k .polarity;
@@ -90,7 +89,7 @@ written-sound c (Meie s) v i h =
     let k = h .columns in
     columns-sound c (writtenOf c (Meie s) v) h refl refl
     (record {
-      rank = k .rank;
+      field = k .field;
       enable = column-set s (v % 2) (small v) (k .enable);
       trigger = k .trigger;
       polarity = k .polarity;
@@ -113,7 +112,7 @@ written-sound c (Meigwctrl s) v i h =
     let k = h .columns in
     columns-sound c (writtenOf c (Meigwctrl s) v) h refl refl
     (record {
-      rank = k .rank;
+      field = k .field;
       enable = k .enable;
       trigger = column-set s (v / 2 % 2) (small (v / 2)) (k .trigger);
       polarity = column-set s (v % 2) (small v) (k .polarity);
@@ -125,7 +124,7 @@ written-sound c (Meigwclr s) v i h =
     let k = h .columns in
     columns-sound c (writtenOf c (Meigwclr s) v) h refl refl
     (record {
-      rank = k .rank;
+      field = k .field;
       enable = k .enable;
       trigger = k .trigger;
       polarity = k .polarity;

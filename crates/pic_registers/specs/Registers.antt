@@ -3,14 +3,12 @@ use Prim.Native.Nat.{ℕ, _+_, _*_, _/_, _%_}
 use mathlib.Core.Bool.{Bool, false, _&&_}
 use lib.ListN.{set}
 use lib.Dec.{eqb}
-use Rattle.pic_source.specs.Ranks.{field, fieldOf, rankOf}
-use Rattle.pic_source.specs.declared.Rank.{Rank}
 use Rattle.pic_source.specs.Sources.{isSource, latchAfter}
 use Rattle.pic_registers.specs.declared.Register.{Register}
 use Rattle.pic_registers.specs.declared.Register.the-variants.{Meipl, Meip, Meie, Mpiccfg, Meigwctrl, Meigwclr, NoRegister}
 use Rattle.pic.specs.declared.Controller.{Controller}
-use Rattle.pic.specs.Fields.{withRank, withEnable, withTrigger, withPolarity, withLine, withLatch, withScalars, withPriord}
-use Rattle.pic.specs.Sources.{rankAt, enableAt, triggerAt, polarityAt, latchAt, pendingAt, settleAt}
+use Rattle.pic.specs.Fields.{withField, withEnable, withTrigger, withPolarity, withLine, withLatch, withScalars, withPriord}
+use Rattle.pic.specs.Sources.{fieldAt, enableAt, triggerAt, polarityAt, latchAt, pendingAt, settleAt}
 use Rattle.pic_registers.specs.Words.{bitOf, wordOfBits, sourceOf, placesOfWord}
 
 -- Sample: the lines of word x take the bits of v, and each of their latches is set if its line is active then.
@@ -28,10 +26,10 @@ pendingBit c x y = isSource (c .sources) (sourceOf x y) && pendingAt c (sourceOf
 abbrev pub pendingWord : Controller → ℕ → ℕ
 pendingWord c x = wordOfBits (pendingBit c x)
 
--- What a register reads: meiplS rank field bits 3:0; meipX pending bits; meieS bit 0; mpiccfg, bit 0 priord; meigwctrlS, bit 1 type, bit 0 polarity;
+-- What a register reads: meiplS the field that it holds, bits 3:0; meipX pending bits; meieS bit 0; mpiccfg, bit 0 priord; meigwctrlS, bit 1 type, bit 0 polarity;
 -- meigwclrS reads 0. Other bits read 0. Other offsets read 0.
 unfoldable pub readOf : Controller → Register → ℕ
-readOf c (Meipl s) = fieldOf (c .scalars .priord) (rankAt c s) .0
+readOf c (Meipl s) = fieldAt c s .0
 readOf c (Meip x) = pendingWord c x
 readOf c (Meie s) = enableAt c s
 readOf c Mpiccfg = c .scalars .priord
@@ -39,14 +37,10 @@ readOf c (Meigwctrl s) = 2 * triggerAt c s + polarityAt c s
 readOf c (Meigwclr s) = 0
 readOf c NoRegister = 0
 
--- The rank that a written word gives: the rank of its field, bits 3:0.
-abbrev pub writtenRank : ℕ → ℕ → Rank
-writtenRank priord v = rankOf priord (field (v % 16))
-
--- What a store changes: meipX, writes dropped; meigwclrS, a store of any value clears the latch. Other bits are dropped. Other offsets, stores dropped. A latch whose line
+-- What a store changes: meiplS takes the field, bits 3:0; meipX, writes dropped; mpiccfg, bit 0 priord, and no field; meigwclrS, a store of any value clears the latch. Other bits are dropped. Other offsets, stores dropped. A latch whose line
 -- is active stays set or is set.
 unfoldable pub writtenOf : Controller → Register → ℕ → Controller
-writtenOf c (Meipl s) v = withRank c (set (c .rank) s (writtenRank (c .scalars .priord) v .0))
+writtenOf c (Meipl s) v = withField c (set (c .field) s (v % 16))
 writtenOf c (Meip x) v = c
 writtenOf c (Meie s) v = withEnable c (set (c .enable) s (v % 2))
 writtenOf c Mpiccfg v = withScalars c (withPriord (c .scalars) (v % 2))

@@ -18,9 +18,9 @@ use crate::values::enable_at;
 use crate::values::field_at;
 use crate::values::gateway_at;
 use crate::values::write_enable;
+use crate::values::write_field;
 use crate::values::write_gateway;
 use crate::values::write_priord;
-use crate::values::write_rank;
 use pic::Controller;
 use pic::Outcome;
 
@@ -56,7 +56,7 @@ fn write(c: Controller, r: Register, v: u32) -> Controller
     ensures { λ d. ⌜ d ≡ writtenOf c r v ⌝ }
 {
     match r {
-        Register::Meipl(s) => write_rank(c, s, v),
+        Register::Meipl(s) => write_field(c, s, v),
         Register::Meip(_) => c,
         Register::Meie(s) => write_enable(c, s, v),
         Register::Mpiccfg => write_priord(c, v),

@@ -2,23 +2,17 @@
 
 ghost use mathlib.Core.Path.{_≡_};
 ghost use Prim.Native.Nat.{_+_, _*_};
-ghost use Rattle.pic_source.specs.Ranks.{fieldOf};
-ghost use Rattle.pic.specs.Sources.{rankAt, enableAt, triggerAt, polarityAt, settleAt};
+ghost use Rattle.pic.specs.Sources.{fieldAt, enableAt, triggerAt, polarityAt, settleAt};
 ghost use Rattle.pic_registers.specs.Registers.{writtenOf};
 ghost use Rattle.pic_registers.specs.declared.Register.the-variants.{Meipl, Meie, Mpiccfg, Meigwctrl, Meigwclr};
 use pic::Controller;
-use pic_source::Field;
-use pic_source::Rank;
-use pic_source::ranks::to_field;
-use pic_source::ranks::to_rank;
 use pic_source::sources::latch_after;
 
 // The field of source s.
 pub(crate) fn field_at(c: Controller, s: u8) -> u32
-    ensures { λ a. ⌜ a ≡ fieldOf (c .scalars .priord) (rankAt c s) .0 ⌝ }
+    ensures { λ a. ⌜ a ≡ fieldAt c s .0 ⌝ }
 {
-    let f = to_field(c.scalars.priord, Rank(c.rank[s as usize]));
-    f.0 as u32
+    c.field[s as usize] as u32
 }
 
 pub(crate) fn enable_at(c: Controller, s: u8) -> u32
@@ -50,12 +44,11 @@ pub(crate) fn settle_at(mut c: Controller, s: u8) -> Controller
     c
 }
 
-// The rank of source s, from the field in v.
-pub(crate) fn write_rank(mut c: Controller, s: u8, v: u32) -> Controller
+// The field of source s, bits 3:0 of v.
+pub(crate) fn write_field(mut c: Controller, s: u8, v: u32) -> Controller
     ensures { λ d. ⌜ d ≡ writtenOf c (Meipl s) v ⌝ }
 {
-    let rank = to_rank(c.scalars.priord, Field((v % 16) as u8));
-    c.rank[s as usize] = rank.0;
+    c.field[s as usize] = (v % 16) as u8;
     c
 }
 

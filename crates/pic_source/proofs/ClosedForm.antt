@@ -1,14 +1,13 @@
 -- The closed form of the mirror is 01's choice, and done twice it gives the field back; what the code makes of it on every controller.
 use Prim.Native.Nat.{ℕ, zero, suc, _-_, _≤_, _<_}
 use mathlib.Core.Path.{_≡_, refl, sym, ap, _∙_}
-use mathlib.Core.Bool.{Bool, true, false, cond, not}
+use mathlib.Core.Bool.{Bool, true, false, cond}
 use native.Mathlib.Omega.{arith}
 use borrow.Author.Tests.{ltb-true, ltb-false}
 use lib.Dec.{eqb, ltb}
 use lib.IntN.{ℤ, pos, negℤ, natAbs, one, _+ℤ_, _-ℤ_, _*ℤ_, +ℤ-idl, +ℤ-idr, +ℤ-assoc, +ℤ-comm, +ℤ-invr, -ℤ-+ℤ-cancel, negℤ-+ℤ, negℤ-negℤ, zero-*ℤ, *ℤ-one, *ℤ-comm, sucℤ-*ℤ}
-use mir.Val.{boolByte}
 use Rattle.pic_source.specs.Ranks.{mirror}
-use Rattle.pic_source.specs.ClosedForm.{closedForm, Closed}
+use Rattle.pic_source.specs.ClosedForm.{orderOf, closedForm, Closed}
 use Rattle.pic_source.proofs.Signed.{not-less, less, kept}
 
 one-times : (z : ℤ) → pos 1 *ℤ z ≡ z
@@ -52,19 +51,19 @@ closed (suc zero) h = record {
 }
 closed (suc (suc k)) h = absurd (omega arith)
 
--- On every controller: with 1 for a priord that is not 0, and 0 for what is below 0, it is the rule's number m.
+-- On every controller: with 0 for what is below 0, it is the rule's number m.
 pub record Total (m : ℕ) (z : ℤ) : Type 0 where
   pub near : natAbs z ≤ 255
   pub is : kept z ≡ m
 
-pub total : (priord n : ℕ) → n < 256 → Total (mirror priord n) (closedForm (pos (boolByte (not (eqb priord 0)))) (pos n))
-unfolding mirror
+pub total : (priord n : ℕ) → n < 256 → Total (mirror priord n) (closedForm (pos (orderOf priord)) (pos n))
+unfolding mirror orderOf
 total priord n h = go (eqb priord 0)
   where
     past : (t : Bool) → ltb 15 n ≡ t → Total (15 - n) (pos 15 -ℤ pos n)
     past true e = let l : 15 < n = ltb-true 15 n e in rw (less 15 n l) (record { near = omega arith; is = omega arith })
     past false e = let l : n ≤ 15 = ltb-false 15 n e in rw (not-less 15 n l) (record { near = omega arith; is = refl })
 
-    go : (t : Bool) → Total (cond t n (15 - n)) (closedForm (pos (boolByte (not t))) (pos n))
+    go : (t : Bool) → Total (cond t n (15 - n)) (closedForm (pos (cond t 0 1)) (pos n))
     go true = rw (closed-0 (pos n)) (record { near = omega arith; is = refl })
     go false = rw (closed-1 (pos n)) (past (ltb 15 n) refl)

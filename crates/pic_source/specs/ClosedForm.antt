@@ -10,6 +10,10 @@ use Rattle.pic_source.specs.Ranks.{mirror}
 unfoldable pub closedForm : ℤ → ℤ → ℤ
 closedForm priord field = field +ℤ priord *ℤ (pos 15 -ℤ pos 2 *ℤ field)
 
+-- Priord 0 or 1; a higher one, which no sound controller has, stands for 1.
+unfoldable pub orderOf : ℕ → ℕ
+orderOf priord = cond (eqb priord 0) 0 1
+
 -- 01's choice over the integers, where 15 − field does not stop at 0.
 abbrev pub choiceOf : ℕ → ℤ → ℤ
 choiceOf priord field = cond (eqb priord 0) field (pos 15 -ℤ field)

@@ -3,7 +3,7 @@
 ghost use mathlib.Core.Path.{_≡_};
 ghost use lib.IntN.{pos};
 ghost use Rattle.pic_source.specs.Ranks.{mirror, fieldOf, rankOf};
-ghost use Rattle.pic_source.specs.ClosedForm.{closedForm};
+ghost use Rattle.pic_source.specs.ClosedForm.{orderOf, closedForm};
 use crate::Field;
 use crate::Rank;
 
@@ -16,11 +16,18 @@ fn closed_form(priord: u8, n: u8) -> i32
     f + p * (15 - 2 * f)
 }
 
+// 0 for priord 0, else 1. It is worked out, and not asked: of a question the compiler makes a branch, and of the winner's loop two.
+fn order(priord: u8) -> u8
+    ensures { λ r. ⌜ r ≡ orderOf priord ⌝ }
+{
+    ((priord as u32 + 255) / 256) as u8
+}
+
 // n, or 15 less n where priord is not 0. What would be below 0 is 0; a sound controller has no such number.
 fn mirrored(priord: u8, n: u8) -> u8
     ensures { λ r. ⌜ r ≡ mirror priord n ⌝ }
 {
-    let z = closed_form((priord != 0) as u8, n);
+    let z = closed_form(order(priord), n);
     (z * ((z >= 0) as i32)) as u8
 }
 

@@ -37,6 +37,7 @@ eventRows =
     ∷ (19, "interrupts are on")
     ∷ (20, "the value is not 0 or 1")
     ∷ (21, "interrupts on, while the uppermost handler is not opened")
+    ∷ (24, "priord is switched while a handler is open")
     ∷ []
 
 -- The words of the first row with this number; none where no row has it.

@@ -35,6 +35,7 @@ fn put_event_words(buffer: &mut [u8], at: usize, refusal: u8) -> usize
             at,
             b"interrupts on, while the uppermost handler is not opened",
         ),
+        24 => put_text(buffer, at, b"priord is switched while a handler is open"),
         _ => put_text(buffer, at, b""),
     }
 }

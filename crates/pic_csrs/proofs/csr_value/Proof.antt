@@ -9,9 +9,6 @@ enum-told c = search needs
 enum-told-2 : tie.Need-enum-told-2
 enum-told-2 c = search needs
 
-to-field-requires : tie.Need-to-field-requires
-to-field-requires c κs = search needs
-
 cast-result : tie.Need-cast-result
 cast-result c = search needs
 
@@ -21,17 +18,11 @@ enum-told-3 c = search needs
 enum-told-4 : tie.Need-enum-told-4
 enum-told-4 c = search needs
 
-to-field-requires-2 : tie.Need-to-field-requires-2
-to-field-requires-2 c κs = search needs
-
 cast-result-2 : tie.Need-cast-result-2
 cast-result-2 c = search needs
 
 enum-told-5 : tie.Need-enum-told-5
 enum-told-5 c = search needs
-
-to-field-requires-3 : tie.Need-to-field-requires-3
-to-field-requires-3 c κs = search needs
 
 cast-result-3 : tie.Need-cast-result-3
 cast-result-3 c = search needs
@@ -51,7 +42,7 @@ returns c = rw (c .enum-told .given .1)
 
 returns-2 : tie.Need-returns-2
 unfolding csrValue
-returns-2 c = rw (c .before .before .enum-told2 .given .1, c .before .to-field .ensures)
+returns-2 c = rw (c .before .enum-told2 .given .1)
 
 returns-3 : tie.Need-returns-3
 unfolding csrValue
@@ -59,11 +50,11 @@ returns-3 c = rw (c .enum-told3 .given .1)
 
 returns-4 : tie.Need-returns-4
 unfolding csrValue
-returns-4 c = rw (c .before .before .enum-told4 .given .1, c .before .to-field2 .ensures)
+returns-4 c = rw (c .before .enum-told4 .given .1)
 
 returns-5 : tie.Need-returns-5
 unfolding csrValue
-returns-5 c = rw (c .before .before .enum-told5 .given .1, c .before .to-field3 .ensures)
+returns-5 c = rw (c .before .enum-told5 .given .1)
 
 returns-6 : tie.Need-returns-6
 unfolding csrValue
@@ -79,14 +70,11 @@ csr-value-spec =
     (tie.spec
     enum-told
     enum-told-2
-    to-field-requires
     cast-result
     enum-told-3
     enum-told-4
-    to-field-requires-2
     cast-result-2
     enum-told-5
-    to-field-requires-3
     cast-result-3
     enum-told-6
     meihap-requires

@@ -6,9 +6,6 @@ use Rattle.pic_csrs.proofs.csr_written.Tie as tie
 cast-t6 : tie.Need-cast-t6
 cast-t6 c = search needs
 
-to-rank-requires : tie.Need-to-rank-requires
-to-rank-requires c κs = search needs
-
 enum-told : tie.Need-enum-told
 enum-told c = search needs
 
@@ -39,7 +36,7 @@ returns c = rw (c .enum-told .given .1)
 
 returns-2 : tie.Need-returns-2
 unfolding csrWritten
-returns-2 c = rw (c .enum-told2 .given .1, c .before .before .to-rank .ensures)
+returns-2 c = rw (c .enum-told2 .given .1)
 
 returns-3 : tie.Need-returns-3
 unfolding csrWritten
@@ -47,11 +44,11 @@ returns-3 c = rw (c .enum-told3 .given .1)
 
 returns-4 : tie.Need-returns-4
 unfolding csrWritten
-returns-4 c = rw (c .enum-told4 .given .1, c .before .before .to-rank .ensures)
+returns-4 c = rw (c .enum-told4 .given .1)
 
 returns-5 : tie.Need-returns-5
 unfolding csrWritten
-returns-5 c = rw (c .enum-told5 .given .1, c .before .before .to-rank .ensures)
+returns-5 c = rw (c .enum-told5 .given .1)
 
 returns-6 : tie.Need-returns-6
 unfolding csrWritten
@@ -66,7 +63,6 @@ csr-written-spec =
     tie.close
     (tie.spec
     cast-t6
-    to-rank-requires
     enum-told
     mul-s
     enum-told-2

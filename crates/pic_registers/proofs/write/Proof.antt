@@ -6,8 +6,8 @@ use Rattle.pic_registers.proofs.write.Tie as tie
 enum-known-r : tie.Need-enum-known-r
 enum-known-r c = search needs
 
-write-rank-requires : tie.Need-write-rank-requires
-write-rank-requires c κs = search needs
+write-field-requires : tie.Need-write-field-requires
+write-field-requires c κs = search needs
 
 enum-told : tie.Need-enum-told
 enum-told c = search needs
@@ -41,7 +41,7 @@ enum-told-3 c = search needs
 
 returns : tie.Need-returns
 unfolding writtenOf
-returns c = rw (c .before .before .r .given .1) (c .write-rank .ensures)
+returns c = rw (c .before .before .r .given .1) (c .write-field .ensures)
 
 returns-2 : tie.Need-returns-2
 unfolding writtenOf
@@ -72,7 +72,7 @@ write-spec =
     tie.close
     (tie.spec
     enum-known-r
-    write-rank-requires
+    write-field-requires
     enum-told
     enum-known-r-2
     write-enable-requires

@@ -89,6 +89,12 @@ slice-aggregate-put-text-14 c = search needs
 put-text-requires-14 : tie.Need-put-text-requires-14
 put-text-requires-14 c κs = search needs
 
+slice-aggregate-put-text-15 : tie.Need-slice-aggregate-put-text-15
+slice-aggregate-put-text-15 c = search needs
+
+put-text-requires-15 : tie.Need-put-text-requires-15
+put-text-requires-15 c κs = search needs
+
 same-length : tie.Need-same-length
 same-length c = search needs
 
@@ -184,8 +190,15 @@ same-length-14 : tie.Need-same-length-14
 same-length-14 c = search needs
 
 returns-14 : tie.Need-returns-14
+unfolding eventRows wordsIn ascii
+returns-14 c = rw (c .before .before .before .before .before .match .keys14) (c .before .before .put-text14 .ensures)
+
+same-length-15 : tie.Need-same-length-15
+same-length-15 c = search needs
+
+returns-15 : tie.Need-returns-15
 unfolding eventRows
-returns-14 c = rw (none-in (c .before .before .before .before .before .before .before .args .refusal) _ eventRows (c .before .before .before .before .before .match .rest)) (c .before .before .put-text14 .ensures)
+returns-15 c = rw (none-in (c .before .before .before .before .before .before .before .args .refusal) _ eventRows (c .before .before .before .before .before .match .rest)) (c .before .before .put-text15 .ensures)
 
 pub put-event-words-spec : {M : Type 1} → statement M
 put-event-words-spec =
@@ -219,6 +232,8 @@ put-event-words-spec =
     put-text-requires-13
     slice-aggregate-put-text-14
     put-text-requires-14
+    slice-aggregate-put-text-15
+    put-text-requires-15
     same-length
     returns
     same-length-2
@@ -246,4 +261,6 @@ put-event-words-spec =
     same-length-13
     returns-13
     same-length-14
-    returns-14)
+    returns-14
+    same-length-15
+    returns-15)

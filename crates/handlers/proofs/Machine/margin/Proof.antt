@@ -13,12 +13,12 @@ returns : tie.Need-returns
 unfolding marginAnswer
 returns c = rw (unsound _ (c .before .is-sound .ensures) (c .if1 .taken))
 
-look-requires : tie.Need-look-requires
-look-requires c κs = search needs
+margin-requires : tie.Need-margin-requires
+margin-requires c κs = search needs
 
 returns-2 : tie.Need-returns-2
 unfolding marginAnswer
-returns-2 c = rw (is-sound _ (c .before .before .before .before .is-sound .ensures) (c .before .before .before .if1 .left), toZ-ofZ {w = w32} {z = c .before .look .result .margin} (search needs), c .before .look .ensures)
+returns-2 c = rw (is-sound _ (c .before .before .before .is-sound .ensures) (c .before .before .if1 .left), toZ-ofZ {w = w32} {z = c .margin .result} (search needs), c .margin .ensures)
 
 pub margin-spec : {M : Type 1} → statement M
-margin-spec = tie.close (tie.spec is-sound-requires returns look-requires returns-2)
+margin-spec = tie.close (tie.spec is-sound-requires returns margin-requires returns-2)

@@ -7,7 +7,7 @@ use Rattle.pic.proofs.Controller.is_sound.Tie as tie
 
 -- Each array has a place for every source, by its type.
 places : (c : tie.Start)
-    → (c .args .self .sources < length (c .args .self .rank))
+    → (c .args .self .sources < length (c .args .self .field))
     × (c .args .self .sources < length (c .args .self .enable))
     × (c .args .self .sources < length (c .args .self .trigger))
     × (c .args .self .sources < length (c .args .self .polarity))

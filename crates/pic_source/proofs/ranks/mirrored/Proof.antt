@@ -7,16 +7,19 @@ use Rattle.pic_source.proofs.ranks.mirrored.Statement.{statement}
 use Rattle.pic_source.proofs.ranks.mirrored.Tie as tie
 use Rattle.pic_source.proofs.ranks.mirrored.Reads as reads
 use Rattle.pic_source.proofs.ranks.mirrored.Lts as lts
+use Rattle.pic_source.proofs.ranks.order.Reads as order-reads
 use Rattle.pic_source.proofs.ranks.closed_form.Reads as closed-form-reads
 
 abbrev Place : Type 0
-Place = lts.After-closed-form (closed-form-reads.Asked, closed-form-reads.Learnt) reads.Pre reads.Post
+Place = lts.After-closed-form (order-reads.Asked, order-reads.Learnt, closed-form-reads.Asked, closed-form-reads.Learnt) reads.Pre reads.Post
 
-worked : (c : Place) → Total (mirror (c .before .args .priord) (c .before .args .n)) (c .closed-form .result)
-worked c = rw (c .closed-form .ensures) (total (c .before .args .priord) (c .before .args .n) (search needs))
+worked : (c : Place) → Total (mirror (c .before .before .args .priord) (c .before .before .args .n)) (c .closed-form .result)
+worked c =
+    rw (c .closed-form .ensures, c .before .order .ensures)
+    (total (c .before .before .args .priord) (c .before .before .args .n) (search needs))
 
-cast-closed-form : tie.Need-cast-closed-form
-cast-closed-form c = search needs
+order-requires : tie.Need-order-requires
+order-requires c κs = search needs
 
 closed-form-requires : tie.Need-closed-form-requires
 closed-form-requires c κs = search needs
@@ -37,4 +40,4 @@ returns c = rw (keeping (c .closed-form .result) (worked c .near) .exact .is) (w
 pub mirrored-spec : {M : Type 1} → statement M
 mirrored-spec =
     tie.close
-    (tie.spec cast-closed-form closed-form-requires cast-result mul-result cast-result-2 returns)
+    (tie.spec order-requires closed-form-requires cast-result mul-result cast-result-2 returns)
