@@ -191,13 +191,13 @@ Holds m depth handlers current = handlersOf m ≡ record { depth = depth; handle
 abbrev pub reversed : List Row
 reversed = store (meipl 2) 5 ∷ store mpiccfg 1 ∷ []
 
--- Threshold and current take this field.
-abbrev pub bars : ℕ → List Row
-bars f = csrWrite meipt f ∷ csrWrite meicurpl f ∷ []
+-- Threshold and current take these fields.
+abbrev pub over : ℕ → ℕ → List Row
+over t c = csrWrite meipt t ∷ csrWrite meicurpl c ∷ []
 
 -- K2: threshold and current of rank 0, source 2 enabled and its line up, but of the rank that field 15 gives when priord is 1.
 abbrev pub mirrored : List Row
-mirrored = store mpiccfg 1 ∷ bars 15 ++ (store (meipl 2) 15 ∷ store (meie 2) 1 ∷ sample 0 4 ∷ mask 1 ∷ [])
+mirrored = store mpiccfg 1 ∷ over 15 15 ++ (store (meipl 2) 15 ∷ store (meie 2) 1 ∷ sample 0 4 ∷ mask 1 ∷ [])
 
 -- K3: sources 2 and 3 enabled at rank 5, both lines up, interrupts on.
 abbrev pub two-and-three : List Row
@@ -231,10 +231,7 @@ both-15 =
 abbrev pub served-15 : List Row
 served-15 = both-15 ++ (mask 0 ∷ chain answers 8 ∷ [])
 
--- No source is pending, with this threshold and this current rank; and source 1 enabled at rank 15, its line up, with the same.
-abbrev pub over : ℕ → ℕ → List Row
-over t c = csrWrite meipt t ∷ csrWrite meicurpl c ∷ []
-
+-- Source 1 enabled at rank 15, its line up, with this threshold and this current rank.
 abbrev pub highest : ℕ → ℕ → List Row
 highest t c = store (meie 1) 1 ∷ store (meipl 1) 15 ∷ sample 0 2 ∷ over t c
 
@@ -247,7 +244,7 @@ abbrev pub listing-text : String
 listing-text =
     "sources 4 events 10\n0 2 0 0\n1 2 0 0\n2 0 0 0\n3 5 0 15\n4 9 0 0\n5 5 8 0\n6 6 5 0\n7 8 0 19\n8 9 0 0\n9 8 0 0\nend open 0 level 0 margin 5\n"
 
--- Source s enabled at rank r.
+-- Source s enabled with field r, which is its rank while priord is 0.
 abbrev pub enabled : ℕ → ℕ → List Row
 enabled s r = store (meipl s) r ∷ store (meie s) 1 ∷ []
 
@@ -381,7 +378,7 @@ from-power-on = store mpiccfg 1 ∷ store (meie 2) 1 ∷ sample 0 4 ∷ mask 1 �
 -- Source 1 has field 3, source 2 field 12, source 3 field 1; threshold and current have field 7. With priord 0 source 2 alone is above them, with priord 1
 -- sources 1 and 3 are. The lines of 1 and 2 are up.
 abbrev pub three-fields : List Row
-three-fields = enabled 1 3 ++ enabled 2 12 ++ enabled 3 1 ++ bars 7 ++ (sample 0 6 ∷ mask 1 ∷ [])
+three-fields = enabled 1 3 ++ enabled 2 12 ++ enabled 3 1 ++ over 7 7 ++ (sample 0 6 ∷ mask 1 ∷ [])
 
 -- Source 2 taken and opened, at rank 12. While it is open priord stays: 24 for the other one, whatever the value's other bits; the same one is accepted; beside
 -- mpiccfg 11 and 10 come first, and a store that is dropped is accepted. Then it returns.
@@ -453,7 +450,7 @@ pub record Points : Type 0 where
   pub k2-kept : (m : Machine) (head value s : ℕ) → (kindOf head ≡ 2 → addressOf head ≡ meipl s → ⊥)
       → fieldAt (stepOf m head value .machine .controller) s ≡ fieldAt (m .controller) s
   -- Switched back, field 15 is rank 15.
-  pub k2-back : Plays 4 (mirrored ++ (store mpiccfg 0 ∷ load (meipl 2) answers 15 ∷ bars 0) ++ (take answers 8 ∷ open-handler answers 15 ∷ []))
+  pub k2-back : Plays 4 (mirrored ++ (store mpiccfg 0 ∷ load (meipl 2) answers 15 ∷ over 0 0) ++ (take answers 8 ∷ open-handler answers 15 ∷ []))
   -- K3 sources 2 and 3 at rank 5: 2 wins;
   pub k3-tie : Wins (after 4 two-and-three) 2 5
   pub k3-tie-taken : Plays 4 (two-and-three ++ (take answers 8 ∷ []))
@@ -634,7 +631,7 @@ pub record Points : Type 0 where
       ∷ csrRead meicurpl answers 0
       ∷ []))
   pub fields-power-on-margin : HasMargin (after 4 from-power-on) (pos 0)
-  pub fields-margin : HasMargin (after 4 (from-power-on ++ bars 15)) (pos 15)
+  pub fields-margin : HasMargin (after 4 (from-power-on ++ over 15 15)) (pos 15)
   -- A capture stores the field of the winner's rank under the priord of now: 15 with no winner; and a switch leaves it.
   pub fields-captured :
       Plays 4

@@ -12,7 +12,7 @@ use Rattle.pic.specs.Sources.{rankAt, enableAt, pendingAt, isEligible, n
 use Rattle.pic.specs.declared.Controller.{Controller}
 use Rattle.pic.specs.Sound.{sourceSoundAt, sourcesSound}
 
--- A source of rank 0 does not pass, so it need not be asked for its rank.
+-- A source of rank 0 does not pass, so whether its rank is 1 or more need not be asked.
 enters : (w : Winner) (s : ℕ) (r : Rank) → betterOf w (entryOf (leb 1 (r .0)) s r) ≡ betterOf w (record { source = s; rank = r })
 unfolding betterOf entryOf
 enters w s r = go (leb 1 (r .0)) refl

@@ -92,6 +92,7 @@ module _ {store : Type 0} {o : ℕ} (c : Controller) (s : ℕ) where
             (λ r k. ap (λ (a : Scalars). a .priord) (store-scalars c r v (λ z. d is (sym (k (λ n. no-mpiccfg (sym z ∙ n))) ∙ ap offsetOf z))));
       }
 
+-- N of a sound controller.
 pub count-most : (c : Controller) → soundOf c ≡ true → sourceCount c ≤ 255
 unfolding sourceCount
 count-most c e = facts c e .most
