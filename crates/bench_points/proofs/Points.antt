@@ -24,7 +24,8 @@ use Rattle.handlers_stack.specs.Stacks.{handlerSound, belowOf, handlersSound, l
 use Rattle.handlers.specs.Machines.{powerOnOf, soundOf}
 use Rattle.handlers.specs.Service.{sampleEvent, loadEvent, storeEvent, csrReadEvent, controllerWrite, csrWriteEvent, takeEvent, openEvent, chainEvent, returnEvent, setMaskEvent, clockEvent, eventOf, soundStepOf}
 use Rattle.handlers.specs.Calls.{clockOf, stepOf, marginAnswer}
-use Rattle.handlers_laws.proofs.Ranks.{field-kept, field-15-never, meipl-stored}
+use Rattle.pic_laws.proofs.Sources.{field-15-never}
+use Rattle.handlers_laws.proofs.Ranks.{field-kept, meipl-stored}
 use Rattle.claims.specs.Play.{endOf, eachOf}
 use Rattle.digits.specs.Digits.{digitsTo}
 use Rattle.record.specs.Words.{wordsOf, bytesOfWords}
@@ -88,7 +89,7 @@ points =
       k1-rank = refl;
       k2 = (refl, refl);
       k2-winner = refl;
-      k2-never = field-15-never;
+      k2-never = λ m s. field-15-never (m .controller) s;
       k2-stored = meipl-stored;
       k2-kept = field-kept;
       k2-back = (refl, refl);

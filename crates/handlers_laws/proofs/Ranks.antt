@@ -1,18 +1,18 @@
--- The fields and the ranks of the sources, and priord, after an event of any kind, and K2's "never".
+-- The fields and the ranks of the sources, and priord, after an event of any kind.
 use Prim.Native.Nat.{ℕ, _*_, _%_, _≤_}
 use mathlib.Core.Path.{_≡_, refl, ap, _∙_}
-use mathlib.Core.Bool.{true, false}
+use mathlib.Core.Bool.{true}
 use native.Mathlib.Omega.{arith}
 use borrow.Author.Tests.{ne-eqb}
 use Rattle.event.specs.Event.{kindOf, addressOf}
 use Rattle.pic_source.specs.declared.Field.{Field}
 use Rattle.pic_source.specs.Ranks.{field, rankOf}
-use Rattle.pic.specs.Sources.{fieldAt, rankAt, eligibleAt}
+use Rattle.pic.specs.Sources.{fieldAt, rankAt}
 use Rattle.pic.specs.Calls.{sourceCount, priorityOrder, setCurrent, captureOf}
 use Rattle.pic_registers.specs.Calls as registers
 use Rattle.pic_csrs.specs.Calls as csrs
 use Rattle.pic_laws.proofs.Kept.{load-same, csr-read-same}
-use Rattle.pic_laws.proofs.Sources.{Stays, arraysOf, arrays-stay, csr-write-arrays, capture-arrays, current-arrays, sample-stays, store-stays, count-most, field-stored, field-15}
+use Rattle.pic_laws.proofs.Sources.{Stays, arraysOf, arrays-stay, csr-write-arrays, capture-arrays, current-arrays, sample-stays, store-stays, count-most, field-stored}
 use Rattle.handlers.specs.declared.Machine.{Machine}
 use Rattle.handlers.specs.Machines.{uppermost, soundOf}
 use Rattle.handlers.specs.Service.{lookAt, storeEvent}
@@ -56,11 +56,7 @@ rank-kept m head v s d p =
     let k = step-stays m head v s in
     ap (λ (a : ℕ). rankOf a (fieldAt (stepOf m head v .machine .controller) s)) (k .priord p) ∙ ap (λ (a : Field). rankOf (m .controller .scalars .priord) a) (k .field d)
 
--- K2: on every machine with priord 1, a source whose meipl holds 15 is not eligible.
-pub field-15-never : (m : Machine) (s : ℕ) → priorityOrder (m .controller) ≡ 1 → fieldAt (m .controller) s ≡ field 15 → eligibleAt (m .controller) s ≡ false
-field-15-never m s p f = field-15 (m .controller) s p f
-
--- And a store of 15 to its meipl makes it so, on every sound machine.
+-- A store to its meipl makes the field of a source the value's bits 3:0, on every sound machine.
 pub meipl-stored : (m : Machine) (s v : ℕ) → soundOf m ≡ true → 1 ≤ s → s ≤ sourceCount (m .controller)
     → fieldAt (storeOf m (4 * s) v .machine .controller) s ≡ field (v % 16)
 unfolding storeOf storeEvent

@@ -161,10 +161,10 @@ module _ (c : Controller) (e : soundOf c ≡ true) (s : ℕ) (a : 1 ≤ s) (b : 
       let n = facts c e .most in
       rw (meipl-accepted (c .sources) s n is-source, meipl-at (c .sources) s n is-source, getD-set-same (c .field) s (v % 16) 0 (omega (arith, facts c e .columns .field .long, here)))
 
--- K2: with priord 1 field 15 is rank 0, and a source of rank 0 is not eligible.
-pub field-15 : (c : Controller) (s : ℕ) → priorityOrder c ≡ 1 → fieldAt c s ≡ field 15 → eligibleAt c s ≡ false
+-- K2: with priord 1 field 15 is rank 0, and a source of rank 0 is not eligible, on every controller.
+pub field-15-never : (c : Controller) (s : ℕ) → priorityOrder c ≡ 1 → fieldAt c s ≡ field 15 → eligibleAt c s ≡ false
 unfolding priorityOrder isEligible mirror
-field-15 c s p f =
+field-15-never c s p f =
     let z : rankAt c s .0 ≡ 0 = ap (λ (a : ℕ). mirror a (fieldAt c s .0)) p ∙ ap (λ (a : Field). mirror 1 (a .0)) f in
     ap (λ (a : ℕ). eqb (enableAt c s) 1 && pendingAt c s && leb 1 a) z ∙ none (eqb (enableAt c s) 1) (pendingAt c s)
   where
