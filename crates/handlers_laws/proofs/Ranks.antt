@@ -1,18 +1,17 @@
 -- The fields and the ranks of the sources, and priord, after an event of any kind.
 use Prim.Native.Nat.{ℕ, _*_, _%_, _≤_}
-use mathlib.Core.Path.{_≡_, refl, ap, _∙_}
+use mathlib.Core.Path.{_≡_, refl, ap}
 use mathlib.Core.Bool.{true}
 use native.Mathlib.Omega.{arith}
 use borrow.Author.Tests.{ne-eqb}
 use Rattle.event.specs.Event.{kindOf, addressOf}
-use Rattle.pic_source.specs.declared.Field.{Field}
-use Rattle.pic_source.specs.Ranks.{field, rankOf}
+use Rattle.pic_source.specs.Ranks.{field}
 use Rattle.pic.specs.Sources.{fieldAt, rankAt}
-use Rattle.pic.specs.Calls.{sourceCount, priorityOrder, setCurrent, captureOf}
+use Rattle.pic.specs.Calls.{sourceCount, setCurrent, captureOf}
 use Rattle.pic_registers.specs.Calls as registers
 use Rattle.pic_csrs.specs.Calls as csrs
 use Rattle.pic_laws.proofs.Kept.{load-same, csr-read-same}
-use Rattle.pic_laws.proofs.Sources.{Stays, arraysOf, arrays-stay, csr-write-arrays, capture-arrays, current-arrays, sample-stays, store-stays, count-most, field-stored}
+use Rattle.pic_laws.proofs.Sources.{Stays, stays-rank, arraysOf, arrays-stay, csr-write-arrays, capture-arrays, current-arrays, sample-stays, store-stays, count-most, field-stored}
 use Rattle.handlers.specs.declared.Machine.{Machine}
 use Rattle.handlers.specs.Machines.{uppermost, soundOf}
 use Rattle.handlers.specs.Service.{lookAt, storeEvent}
@@ -51,10 +50,7 @@ field-kept m head v s d = step-stays m head v s .field d
 -- So the rank of a source changes by a store to its meipl or to mpiccfg alone.
 pub rank-kept : (m : Machine) (head value s : ℕ) → (kindOf head ≡ 2 → addressOf head ≡ 4 * s → ⊥) → (kindOf head ≡ 2 → addressOf head ≡ 0x3000 → ⊥)
     → rankAt (stepOf m head value .machine .controller) s ≡ rankAt (m .controller) s
-unfolding priorityOrder
-rank-kept m head v s d p =
-    let k = step-stays m head v s in
-    ap (λ (a : ℕ). rankOf a (fieldAt (stepOf m head v .machine .controller) s)) (k .priord p) ∙ ap (λ (a : Field). rankOf (m .controller .scalars .priord) a) (k .field d)
+rank-kept m head v s d p = stays-rank (step-stays m head v s) d p
 
 -- A store to its meipl makes the field of a source the value's bits 3:0, on every sound machine.
 pub meipl-stored : (m : Machine) (s v : ℕ) → soundOf m ≡ true → 1 ≤ s → s ≤ sourceCount (m .controller)

@@ -7,15 +7,17 @@ use native.Mathlib.Omega.{arith}
 use lib.Dec.{ltb, eqb}
 use borrow.Author.Tests.{eqb-true, eqb-false, eq-eqb, ne-eqb, not-true}
 use Rattle.event.specs.Event.{addressOf}
+use Rattle.pic.specs.declared.Controller.{Controller}
 use Rattle.pic.specs.Sound as pic
-use Rattle.pic.specs.Calls.{sourceCount, priorityOrder, currentRank}
+use Rattle.pic.specs.Calls.{priorityOrder, currentRank}
 use Rattle.pic.specs.Orders.{ordered}
 use Rattle.pic_registers.specs.Calls as registers
 use Rattle.pic_source.proofs.Bools.{or-cases}
 use Rattle.pic_laws.proofs.Kept.{store-sound, sample-current, store-current, csr-write-current, load-same, csr-read-same, capture-current}
-use Rattle.pic_laws.proofs.Orders.{store-order, store-refusal, other-order, turned, power-on-order, power-on-ranks}
+use Rattle.pic_laws.proofs.Orders.{store-order, store-refusal, ordered-is, ordered-count, ordered-same, other-order, turned, power-on-order, power-on-ranks}
 use Rattle.handlers.specs.declared.Machine.{Machine}
 use Rattle.handlers.specs.declared.Outcome.{Outcome}
+use Rattle.handlers.specs.Fields.{withController}
 use Rattle.handlers.specs.Machines.{powerOnOf, soundOf}
 use Rattle.handlers.specs.Service.{accepted, ask, lifted, switches, storeEvent}
 use Rattle.handlers.specs.Calls.{storeOf}
@@ -41,24 +43,26 @@ store-questions m o v e = rw e (go (eqb o 0x3000) refl (not (eqb (v % 2) (priori
 order-lifted : (m : Machine) (v : ℕ) → lifted m (registers.storeOf (m .controller) 0x3000 v) ≡ accepted (withOrder m (v % 2)) 0
 order-lifted m v = ap (lifted m) (store-order (m .controller) v)
 
+-- With its own priord the machine is as it was.
+own-order : (m : Machine) {p : ℕ} → p ≡ priorityOrder (m .controller) → accepted (withOrder m p) 0 ≡ accepted m 0
+own-order m h = rw h (ap (λ (c : Controller). accepted (withController m c) 0) (ordered-same (m .controller)))
+
 pub order-stored : OrderStored
-unfolding storeOf storeEvent priorityOrder
+unfolding storeOf storeEvent
 order-stored m v e =
     record {
-      same = λ h. rw (e, eq-eqb (v % 2) (m .controller .scalars .priord) h) (order-lifted m v ∙ ap (λ (p : ℕ). accepted (withOrder m p) 0) h);
-      open-handler = λ d l. rw (e, ne-eqb (v % 2) (m .controller .scalars .priord) d, ne-eqb (m .depth) 0 (λ z. omega arith));
-      no-handler = λ d z. rw (e, ne-eqb (v % 2) (m .controller .scalars .priord) d, eq-eqb (m .depth) 0 z) (order-lifted m v);
+      same = λ h. rw (e, eq-eqb (v % 2) (priorityOrder (m .controller)) h) (order-lifted m v ∙ own-order m h);
+      open-handler = λ d l. rw (e, ne-eqb (v % 2) (priorityOrder (m .controller)) d, ne-eqb (m .depth) 0 (λ z. omega arith));
+      no-handler = λ d z. rw (e, ne-eqb (v % 2) (priorityOrder (m .controller)) d, eq-eqb (m .depth) 0 z) (order-lifted m v);
     }
 
 -- With no handler, either priord leaves a machine sound.
 order-sound : (m : Machine) (v : ℕ) → soundOf m ≡ true → m .depth ≡ 0 → soundOf (withOrder m (v % 2)) ≡ true
-unfolding sourceCount
 order-sound m v e z =
     let s : pic.soundOf (ordered (m .controller) (v % 2)) ≡ true = rw (store-order (m .controller) v) at (store-sound (m .controller) (facts m e .controller) 0x3000 v) in
-    controller-sound m (ordered (m .controller) (v % 2)) e s refl (inl z)
+    controller-sound m (ordered (m .controller) (v % 2)) e s (ordered-count (m .controller) (v % 2)) (inl z)
 
 pub order-switched : OrderSwitched
-unfolding priorityOrder
 order-switched m v e z d =
     let c = m .controller in
     let k : storeOf m 0x3000 v ≡ accepted (withOrder m (v % 2)) 0 = order-stored m v e .no-handler d z in
@@ -66,8 +70,8 @@ order-switched m v e z d =
       turned = rw (k, other-order c (facts m e .controller) v d) (turned c (facts m e .controller));
       back = λ w h.
           rw k
-          (order-stored (withOrder m (v % 2)) w (order-sound m v e z) .no-handler (λ g. d (sym g ∙ h)) z
-          ∙ ap (λ (p : ℕ). accepted (withOrder m p) 0) h);
+          (order-stored (withOrder m (v % 2)) w (order-sound m v e z) .no-handler (λ g. d (sym (g ∙ ordered-is c (v % 2)) ∙ h)) z
+          ∙ own-order m h);
     }
 
 pub power-on-switched : PowerOnSwitched

@@ -36,6 +36,19 @@ pub store-order : (c : Controller) (v : ℕ) → storeOf c 0x3000 v ≡ accepts 
 unfolding storeOf offsetRefusal pageRegister writtenOf
 store-order c v = refl
 
+-- The priord that a controller is given is its own then, its N stays, and given its own it is as it was.
+pub ordered-is : (c : Controller) (p : ℕ) → priorityOrder (ordered c p) ≡ p
+unfolding priorityOrder
+ordered-is c p = refl
+
+pub ordered-count : (c : Controller) (p : ℕ) → sourceCount (ordered c p) ≡ sourceCount c
+unfolding sourceCount
+ordered-count c p = refl
+
+pub ordered-same : (c : Controller) → ordered c (priorityOrder c) ≡ c
+unfolding priorityOrder
+ordered-same c = refl
+
 module _ (c : Controller) (e : soundOf c ≡ true) where
   one-bit : c .scalars .priord ≤ 1
   one-bit = facts c e .ranges .priord

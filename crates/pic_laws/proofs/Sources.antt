@@ -15,7 +15,7 @@ use Rattle.pic.specs.declared.Outcome.{Outcome}
 use Rattle.pic.specs.declared.Winner.{Winner}
 use Rattle.pic_source.specs.declared.Rank.{Rank}
 use Rattle.pic_source.specs.declared.Field.{Field}
-use Rattle.pic_source.specs.Ranks.{field, mirror}
+use Rattle.pic_source.specs.Ranks.{field, mirror, rankOf}
 use Rattle.pic_source.specs.Sources.{isSource, latchAfter}
 use Rattle.pic_registers.specs.declared.Register.{Register}
 use Rattle.pic_registers.specs.declared.Register.the-variants.{Meipl, Meip, Meie, Mpiccfg, Meigwctrl, Meigwclr, NoRegister}
@@ -69,6 +69,12 @@ arrays-follow c d e h s a b =
 pub record Stays (store : Type 0) (o s : ℕ) (c d : Controller) : Type 0 where
   pub field : (store → o ≡ 4 * s → ⊥) → fieldAt d s ≡ fieldAt c s
   pub priord : (store → o ≡ 0x3000 → ⊥) → priorityOrder d ≡ priorityOrder c
+
+-- Where both stay, so does the rank.
+pub stays-rank : {store : Type 0} {o s : ℕ} {c d : Controller} → Stays store o s c d → (store → o ≡ 4 * s → ⊥) → (store → o ≡ 0x3000 → ⊥) → rankAt d s ≡ rankAt c s
+unfolding priorityOrder
+stays-rank {s = s} {c = c} {d = d} k f p =
+    ap (λ (a : ℕ). rankOf a (fieldAt d s)) (k .priord p) ∙ ap (λ (a : Field). rankOf (c .scalars .priord) a) (k .field f)
 
 module _ {store : Type 0} {o : ℕ} (c : Controller) (s : ℕ) where
   pub arrays-stay : (d : Controller) → arraysOf d ≡ arraysOf c → Stays store o s c d
