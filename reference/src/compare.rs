@@ -18,6 +18,7 @@ const NAMES: [&str; KINDS as usize] = [
     "return",
     "set mask",
     "clock",
+    "error",
 ];
 
 /// What is compared: a program, and how many inputs of which seed it gets.

@@ -20,8 +20,9 @@ pub const CHAIN: u32 = 7;
 pub const RETURN: u32 = 8;
 pub const SET_MASK: u32 = 9;
 pub const CLOCK: u32 = 10;
+pub const ERROR: u32 = 11;
 /// The kinds are the numbers below this one.
-pub const KINDS: u32 = 11;
+pub const KINDS: u32 = 12;
 
 /// An event of a known kind whose unused parts are 0.
 #[derive(Clone, Copy, Debug, PartialEq, Eq)]
@@ -37,6 +38,7 @@ pub enum Action {
     Return,
     SetMask { value: u32 },
     Clock,
+    Error { counter: u32 },
 }
 
 /// Head and value in hexadecimal, the head in eight digits.
@@ -93,6 +95,7 @@ impl Event {
             RETURN => neither(Action::Return),
             SET_MASK => only_value(Action::SetMask { value }),
             CLOCK => neither(Action::Clock),
+            ERROR => only_address(Action::Error { counter: address }),
             _ => Err(6),
         }
     }

@@ -1,5 +1,6 @@
 //! Test records from a seed, in families.
 
+use crate::error_counter::*;
 use crate::event::*;
 use crate::machine::*;
 use crate::random::Random;
@@ -47,6 +48,7 @@ pub const FAMILIES: &[Family] = &[
     ("sources beyond N", beyond),
     ("samples", samples),
     ("timers", timers),
+    ("errors", errors),
     ("truncated", truncated),
     ("extended", extended),
     ("wrong count", wrong_count),
@@ -137,6 +139,7 @@ fn some_weights(random: &mut Random) -> Weights {
         csr_write: random.below(16),
         service: random.between(1, 50),
         timer: random.below(12),
+        error: random.below(10),
         blind: random.below(6),
         boundary: random.below(6),
         refused: random.below(6),
@@ -195,7 +198,8 @@ fn plain_random(random: &mut Random, limits: Limits) -> Vec<u8> {
             LOAD | STORE if random.chance(2, 3) => 0x1000 * random.below(6) + 4 * random.below(6),
             LOAD | STORE if random.chance(7, 8) => address & 0x7FFC,
             CSR_READ | CSR_WRITE if random.chance(7, 8) => script.a_csr(),
-            SAMPLE..=CSR_WRITE => address,
+            ERROR if random.chance(3, 4) => address % 3,
+            SAMPLE..=CSR_WRITE | ERROR => address,
             _ => 0,
         };
         script.event(kind, address, value);
@@ -238,7 +242,7 @@ fn csr_addresses(random: &mut Random, limits: Limits) -> Vec<u8> {
     for _ in 0..random.between(20, 200) {
         let address = script.boundary_csr();
         let value = random.word();
-        match random.below(7) {
+        match random.below(8) {
             0 => {
                 script.csr_read(address);
             }
@@ -250,6 +254,9 @@ fn csr_addresses(random: &mut Random, limits: Limits) -> Vec<u8> {
             4 => script.provoke(),
             5 => {
                 script.clock();
+            }
+            6 => {
+                script.error(random.below(3));
             }
             _ => script.step(&EVEN),
         }
@@ -263,7 +270,7 @@ fn question_order(random: &mut Random, limits: Limits) -> Vec<u8> {
     let mut script = Script::new(random, limits);
     for _ in 0..random.between(5, 40) {
         let value = random.word();
-        match random.below(11) {
+        match random.below(12) {
             0 => {
                 script.load(random.pick(&[0x8002, 0x8001, 0xFFFF, 0x9003, 0x8000]));
             }
@@ -274,7 +281,7 @@ fn question_order(random: &mut Random, limits: Limits) -> Vec<u8> {
                 );
             }
             2 => {
-                let csrs = [0xFC8, 0x1FC8, 0xBCC, 0x1BCC, 0x7D7, 0x7D8];
+                let csrs = [0xFC8, 0x1FC8, 0xBCC, 0x1BCC, 0x7D7, 0x7D8, 0x7F2, 0x7F3];
                 script.csr_write(random.pick(&csrs), value);
             }
             3 => {
@@ -304,6 +311,9 @@ fn question_order(random: &mut Random, limits: Limits) -> Vec<u8> {
                 }
                 script.store(random.pick(&offsets), other);
             }
+            9 => {
+                script.error(random.pick(&[0, 2, 3, 4, 0x7F0, 0x8001, 0xFFFF]));
+            }
             _ => {
                 script.serve();
                 script.serve();
@@ -327,7 +337,7 @@ fn rising_ranks(random: &mut Random) -> Vec<Rank> {
 
 /// Tries what a handler must not do, or may do without effect on nesting.
 fn disturb(script: &mut Script, random: &mut Random) {
-    match random.below(14) {
+    match random.below(16) {
         0 => {
             script.open();
         }
@@ -366,6 +376,10 @@ fn disturb(script: &mut Script, random: &mut Random) {
             script.clock();
         }
         12 => script.timer_step(),
+        13 => {
+            script.error(random.below(4));
+        }
+        14 => script.error_step(),
         _ => script.pending_words(),
     }
 }
@@ -571,6 +585,7 @@ fn nesting_wandering(random: &mut Random, limits: Limits) -> Vec<u8> {
         csr_write: 1,
         service: 80,
         timer: 4,
+        error: 3,
         blind: 3,
         boundary: 0,
         refused: 2,
@@ -1608,6 +1623,236 @@ fn clocks_in_handlers(script: &mut Script, random: &mut Random) {
     }
 }
 
+/// Thresholds and counts at their edges, and errors, alone, beside clocks and within handlers.
+fn errors(random: &mut Random, limits: Limits) -> Vec<u8> {
+    let mut script = Script::new(random, limits);
+    if random.chance(1, 4) {
+        script.reverse();
+    }
+    if random.coin() {
+        script.read_all_errors();
+    }
+    for _ in 0..random.between(4, 18) {
+        match random.below(13) {
+            0 => held_thresholds(&mut script, random),
+            1 | 2 => over_the_end(&mut script, random),
+            3 | 4 => selected_bits(&mut script, random),
+            5 => every_phase(&mut script, random),
+            6 => three_counters(&mut script, random),
+            7 => error_registers(&mut script, random),
+            8 => beside_error_csrs(&mut script, random),
+            9 => errors_and_clocks(&mut script, random),
+            10 => errors_in_handlers(&mut script, random),
+            11 => script.wander(&EVEN, 10),
+            _ => {
+                for _ in 0..random.between(5, 20) {
+                    script.error_step();
+                }
+            }
+        }
+        if random.coin() {
+            script.read_all_errors();
+        }
+    }
+    script.audit();
+    let mut record = script.record();
+    if random.chance(2, 5) {
+        spoil_error(&mut record, random);
+    }
+    bytes_of(&record)
+}
+
+/// Errors in one counter, which is read after most of them.
+fn count_errors(script: &mut Script, random: &mut Random, counter: u32, errors: u32) {
+    for _ in 0..errors {
+        script.error(counter);
+        if random.chance(2, 3) {
+            script.read_errors(counter);
+        }
+    }
+}
+
+/// Thresholds at the ends of the range and above it, read back, and an error by what is held.
+fn held_thresholds(script: &mut Script, random: &mut Random) {
+    let counter = random.below(3);
+    for _ in 0..random.between(2, 6) {
+        let threshold = random.pick(&[0, 1, 25, 26, 27, 28, 29, 30, 31]);
+        let bit = threshold.min(HIGHEST_THRESHOLD);
+        // Nearly all bits, the selected one alone, all others, or any.
+        let counts = [COUNT_END - 2, 1 << bit, COUNT_END - 1 - (1 << bit)];
+        let count = match random.below(4) {
+            0 => random.word() % COUNT_END,
+            _ => random.pick(&counts),
+        };
+        script.set_errors(counter, threshold, count);
+        script.read_errors(counter);
+        count_errors(script, random, counter, 1);
+    }
+}
+
+/// Counts just below 2^27, and errors that take them to 0 and on.
+fn over_the_end(script: &mut Script, random: &mut Random) {
+    for _ in 0..random.between(1, 3) {
+        let counter = random.below(3);
+        let threshold = match random.below(3) {
+            0 => random.pick(&[0, 26]),
+            _ => random.below(32),
+        };
+        let missing = random.between(1, 3);
+        script.set_errors(counter, threshold, COUNT_END - missing);
+        script.read_errors(counter);
+        let errors = missing + random.below(3);
+        count_errors(script, random, counter, errors);
+    }
+}
+
+/// Counts just below one at which the selected bit changes, and errors to there and on.
+fn selected_bits(script: &mut Script, random: &mut Random) {
+    for _ in 0..random.between(2, 4) {
+        let counter = random.below(3);
+        let threshold = random.below(27);
+        let bit = 1 << threshold;
+        // The bits above change nothing.
+        let above = (random.word() % COUNT_END) & !(2 * bit - 1);
+        let change = random.pick(&[bit, 2 * bit]);
+        let missing = random.between(1, 3).min(change);
+        script.set_errors(counter, threshold, above + change - missing);
+        let errors = missing + random.between(1, 2);
+        count_errors(script, random, counter, errors);
+    }
+}
+
+/// A low bit from 0 to 1 and back, twice, with an answer at every error.
+fn every_phase(script: &mut Script, random: &mut Random) {
+    let counter = random.below(3);
+    let threshold = random.below(3);
+    let above = (random.word() % COUNT_END) & !7;
+    script.set_errors(counter, threshold, above + random.below(8));
+    let errors = (4 << threshold) + 1;
+    count_errors(script, random, counter, errors);
+}
+
+/// Errors in all three by turns; after each, all three are read.
+fn three_counters(script: &mut Script, random: &mut Random) {
+    for counter in 0..3 {
+        let threshold = script.a_threshold();
+        let count = script.an_error_count(threshold);
+        script.set_errors(counter, threshold, count);
+    }
+    script.read_all_errors();
+    for _ in 0..random.between(3, 9) {
+        script.error(random.below(3));
+        script.read_all_errors();
+    }
+}
+
+/// Any word into any of the three, and what all of them hold then.
+fn error_registers(script: &mut Script, random: &mut Random) {
+    for _ in 0..random.between(1, 4) {
+        script.csr_write(random.pick(&ERROR_CSRS), random.word());
+        script.read_all_errors();
+        if random.coin() {
+            script.error(random.below(3));
+            script.read_all_errors();
+        }
+    }
+}
+
+/// CSRs beside those of the counters, and addresses of errors that name no counter.
+fn beside_error_csrs(script: &mut Script, random: &mut Random) {
+    for _ in 0..random.between(3, 8) {
+        let real = random.pick(&ERROR_CSRS);
+        let address = match random.below(4) {
+            0 | 1 => random.pick(&[0x7EF, 0x7F3, 0x7F4, 0x7F8, 0x7D8]),
+            2 => real ^ 1 << random.below(16),
+            _ => real,
+        };
+        match random.below(3) {
+            0 => {
+                script.csr_read(address);
+            }
+            1 => {
+                script.csr_write(address, random.word());
+            }
+            _ => {
+                let address = script.no_counter();
+                script.error(address);
+            }
+        }
+    }
+    script.read_all_errors();
+}
+
+/// Clocks and errors by turns; neither changes what the other counts.
+fn errors_and_clocks(script: &mut Script, random: &mut Random) {
+    for timer in 0..2 {
+        script.set_bound(timer, random.below(6));
+    }
+    for _ in 0..random.between(2, 5) {
+        if random.coin() {
+            script.clock();
+        } else {
+            script.error(random.below(3));
+        }
+        script.read_timers();
+        script.read_all_errors();
+    }
+}
+
+/// A few errors in any of the counters, now and then in none of them.
+fn some_errors(script: &mut Script, random: &mut Random) {
+    for _ in 0..random.below(4) {
+        let counter = if random.chance(1, 6) {
+            script.no_counter()
+        } else {
+            random.below(3)
+        };
+        script.error(counter);
+    }
+}
+
+/// Errors between the takes, opens, chains and returns of some handlers.
+fn errors_in_handlers(script: &mut Script, random: &mut Random) {
+    for counter in 0..3 {
+        script.set_errors(counter, random.below(3), random.below(8));
+    }
+    for _ in 0..random.between(1, 5) {
+        script.set_mask(1);
+        script.provoke();
+        for kind in [TAKE, OPEN] {
+            script.event(kind, 0, 0);
+            some_errors(script, random);
+        }
+    }
+    while !script.machine.handlers.is_empty() && !script.full() {
+        script.set_mask(0);
+        some_errors(script, random);
+        if random.coin() {
+            chain_variants(script, random);
+            some_errors(script, random);
+        }
+        script.give_back();
+        some_errors(script, random);
+        if random.chance(1, 8) {
+            break;
+        }
+    }
+    script.read_all_errors();
+}
+
+/// Puts in an event that the reader refuses: a value beside an address of any sort, or a kind
+/// above.
+fn spoil_error(record: &mut Record, random: &mut Random) {
+    let mut event = Event::new(ERROR, address_of_error(random), 0);
+    if random.chance(2, 3) {
+        use_unused(&mut event, random);
+    } else {
+        event.head += random.pick(&[1, 1, 1, 2, 4, 16, 0x100, 0x8000]) << 16;
+    }
+    let place = random.below(record.events.len() as u32) as usize;
+    record.events[place] = event;
+}
+
 // Damaged records.
 
 pub(crate) fn small_record(random: &mut Random, limits: Limits) -> Record {
@@ -1761,20 +2006,44 @@ fn too_long(random: &mut Random, limits: Limits) -> Vec<u8> {
 }
 
 pub(crate) fn bad_kind(random: &mut Random) -> u32 {
-    match random.below(4) {
-        0 => random.pick(&[KINDS, KINDS + 1, 15, 16, 0x100, 0x8000, 0xFFFF]),
-        1 => random.below(KINDS) | 1 << random.between(4, 15),
-        2 => random.below(KINDS) << 8 | 0x1000,
+    match random.below(5) {
+        0 => KINDS,
+        1 => random.pick(&[KINDS + 1, 15, 16, 0x100, 0x8000, 0xFFFF]),
+        2 => random.below(KINDS) | 1 << random.between(4, 15),
+        3 => random.below(KINDS) << 8 | 0x1000,
         _ => random.between(KINDS, 0xFFFF),
     }
+}
+
+/// The address of an error: a counter's or another.
+fn address_of_error(random: &mut Random) -> u32 {
+    random.pick(&[0, 1, 2, 3, 3, 3, 4, 0x7F0, 0xFFFF])
+}
+
+/// An event of any kind, with no address and no value; an error may have an address.
+pub(crate) fn bare_event(random: &mut Random) -> Event {
+    let kind = if random.chance(1, 5) {
+        ERROR
+    } else {
+        random.below(KINDS)
+    };
+    let address = if kind == ERROR {
+        address_of_error(random)
+    } else {
+        0
+    };
+    Event::new(kind, address, 0)
 }
 
 /// Sets an unused part of an event, if its kind has one.
 pub(crate) fn use_unused(event: &mut Event, random: &mut Random) {
     let bit = 1 << random.below(16);
     let kind = event.kind();
-    let unused_value = matches!(kind, LOAD | CSR_READ | TAKE | OPEN | CHAIN | RETURN | CLOCK);
-    let unused_address = kind >= TAKE;
+    let unused_value = matches!(
+        kind,
+        LOAD | CSR_READ | TAKE | OPEN | CHAIN | RETURN | CLOCK | ERROR
+    );
+    let unused_address = kind >= TAKE && kind != ERROR;
     if unused_value && (!unused_address || random.coin()) {
         event.value |= bit << (16 * random.below(2));
     } else if unused_address {
@@ -1812,7 +2081,7 @@ fn unused_parts(random: &mut Random, limits: Limits) -> Vec<u8> {
         let place = random.below(record.events.len() as u32) as usize;
         let event = &mut record.events[place];
         if random.coin() {
-            *event = Event::new(random.below(KINDS), 0, 0);
+            *event = bare_event(random);
         }
         use_unused(event, random);
     }
@@ -1838,9 +2107,13 @@ fn unknown_event(random: &mut Random) -> Event {
 
 /// An event that fails question 7.
 fn unused_event(random: &mut Random) -> Event {
-    let mut event = Event::new(random.pick(&[1, 3, 5, 6, 7, 8, 9, 10]), 0, 0);
-    use_unused(&mut event, random);
-    event
+    loop {
+        let mut event = bare_event(random);
+        use_unused(&mut event, random);
+        if event.action().is_err() {
+            return event;
+        }
+    }
 }
 
 /// Some of the faults that the questions look for, all in one record.
@@ -1908,14 +2181,15 @@ fn noise_of_events(random: &mut Random, limits: Limits) -> Vec<u8> {
             address = match kind {
                 SAMPLE => address & 7,
                 LOAD | STORE => address & 0x701C,
-                _ if random.coin() => address & 0x000F | 0x07D0,
+                ERROR => address & 3,
+                _ if random.coin() => address & 0x000F | random.pick(&[0x07D0, 0x07F0]),
                 _ => address & 0x0407 | 0x0BC8,
             };
             if kind == SET_MASK || random.coin() {
                 value &= 1;
             }
         }
-        if kind >= TAKE {
+        if (TAKE..=CLOCK).contains(&kind) {
             address = 0;
         }
         if !matches!(kind, SAMPLE | STORE | CSR_WRITE | SET_MASK) {

@@ -2,6 +2,7 @@
 
 pub mod compare;
 pub mod compare_text;
+pub mod error_counter;
 pub mod event;
 pub mod generate;
 pub mod machine;

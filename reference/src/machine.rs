@@ -1,5 +1,7 @@
-//! The interrupt controller, its handlers, the internal timers, and the eleven events.
+//! The interrupt controller, its handlers, the internal timers, the error counters, and the twelve
+//! events.
 
+use crate::error_counter::{error_counter, ErrorCounter};
 use crate::event::{Action, Event};
 use crate::rank::{Field, Rank};
 use crate::timer::{timer_register, Timer};
@@ -10,7 +12,7 @@ pub const MEICPCT: u32 = 0xBCA;
 pub const MEICIDPL: u32 = 0xBCB;
 pub const MEICURPL: u32 = 0xBCC;
 pub const MEIHAP: u32 = 0xFC8;
-/// The controller's CSRs; the timers' are apart.
+/// The controller's CSRs; those of timers and error counters are apart.
 pub const CSRS: [u32; 6] = [MEIVT, MEIPT, MEICPCT, MEICIDPL, MEICURPL, MEIHAP];
 
 /// One external source with its gateway.
@@ -67,6 +69,7 @@ pub struct Machine {
     /// The uppermost handler is the last.
     pub handlers: Vec<Handler>,
     pub timers: [Timer; 2],
+    pub error_counters: [ErrorCounter; 3],
 }
 
 /// The answer of an event and its refusal number, 0 when accepted.
@@ -107,7 +110,7 @@ fn priord_of(value: u32) -> bool {
 }
 
 fn is_csr(address: u32) -> bool {
-    CSRS.contains(&address) || timer_register(address).is_some()
+    CSRS.contains(&address) || timer_register(address).is_some() || error_counter(address).is_some()
 }
 
 impl Machine {
@@ -129,6 +132,7 @@ impl Machine {
             mask: false,
             handlers: Vec::new(),
             timers: [Timer::power_on(), Timer::power_on()],
+            error_counters: Default::default(),
         };
         (machine, refusal)
     }
@@ -159,6 +163,7 @@ impl Machine {
             && self.current.sound()
             && self.handlers.len() <= 15
             && self.timers.iter().all(Timer::sound)
+            && self.error_counters.iter().all(ErrorCounter::sound)
     }
 
     fn latches_sound(&self) -> bool {
@@ -262,7 +267,7 @@ impl Machine {
         Ok(answer)
     }
 
-    /// Questions 9 to 21, and 24.
+    /// Questions 9 to 21, 24 and 25.
     fn admit(&self, action: Action) -> Result<(), u32> {
         match action {
             Action::Sample { word, .. } => require(word <= 7, 9),
@@ -296,6 +301,7 @@ impl Machine {
                 require(value == 0 || may_unmask, 21)
             }
             Action::Clock => Ok(()),
+            Action::Error { counter } => require(counter <= 2, 25),
         }
     }
 
@@ -325,6 +331,7 @@ impl Machine {
                 0
             }
             Action::Clock => self.clock(),
+            Action::Error { counter } => u32::from(self.error_counters[counter as usize].error()),
         }
     }
 
@@ -413,10 +420,7 @@ impl Machine {
             MEICIDPL => self.claimed.into(),
             MEICURPL => self.current.into(),
             MEIHAP => self.meihap(),
-            _ => match timer_register(address) {
-                Some((timer, register)) => self.timers[timer].read(register),
-                None => 0,
-            },
+            _ => self.read_counters(address),
         }
     }
 
@@ -429,11 +433,26 @@ impl Machine {
             }
             MEICIDPL => self.claimed = Field::written(value),
             MEICURPL => self.current = Field::written(value),
-            _ => {
-                if let Some((timer, register)) = timer_register(address) {
-                    self.timers[timer].write(register, value);
-                }
-            }
+            _ => self.write_counters(address, value),
+        }
+    }
+
+    /// A CSR of the timers or of the error counters.
+    fn read_counters(&self, address: u32) -> u32 {
+        if let Some((timer, register)) = timer_register(address) {
+            self.timers[timer].read(register)
+        } else if let Some(counter) = error_counter(address) {
+            self.error_counters[counter].read()
+        } else {
+            0
+        }
+    }
+
+    fn write_counters(&mut self, address: u32, value: u32) {
+        if let Some((timer, register)) = timer_register(address) {
+            self.timers[timer].write(register, value);
+        } else if let Some(counter) = error_counter(address) {
+            self.error_counters[counter].write(value);
         }
     }
 

@@ -1,6 +1,7 @@
 //! A record in the making: every event is played at once, so that the next can be chosen by the
 //! state that it leads to.
 
+use crate::error_counter::*;
 use crate::event::*;
 use crate::machine::*;
 use crate::random::Random;
@@ -23,6 +24,8 @@ pub struct Weights {
     pub service: u32,
     /// A clock, or a register of a timer.
     pub timer: u32,
+    /// An error, or an error counter.
+    pub error: u32,
     /// A service event without a look at the state.
     pub blind: u32,
     /// Offsets and CSR addresses at the edges.
@@ -40,6 +43,7 @@ pub const EVEN: Weights = Weights {
     csr_write: 10,
     service: 30,
     timer: 8,
+    error: 6,
     blind: 4,
     boundary: 4,
     refused: 2,
@@ -179,6 +183,10 @@ impl Script {
 
     pub fn clock(&mut self) -> Outcome {
         self.event(CLOCK, 0, 0)
+    }
+
+    pub fn error(&mut self, counter: u32) -> Outcome {
+        self.event(ERROR, counter, 0)
     }
 
     /// Sometimes sets bits above the kept ones, which the machine must drop.
@@ -348,6 +356,21 @@ impl Script {
         }
     }
 
+    /// Writes an error counter; thresholds of 27 to 31 may be written too.
+    pub fn set_errors(&mut self, counter: u32, threshold: u32, count: u32) {
+        self.csr_write(ERROR_CSRS[counter as usize], threshold << 27 | count);
+    }
+
+    pub fn read_errors(&mut self, counter: u32) {
+        self.csr_read(ERROR_CSRS[counter as usize]);
+    }
+
+    pub fn read_all_errors(&mut self) {
+        for address in ERROR_CSRS {
+            self.csr_read(address);
+        }
+    }
+
     /// Reads what a capture sets.
     pub fn read_claim(&mut self) {
         self.csr_read(MEIHAP);
@@ -419,12 +442,47 @@ impl Script {
         }
     }
 
-    /// One of the twelve CSRs, mostly one of the controller's.
+    /// A threshold to write, often at the ends of its range or above.
+    pub fn a_threshold(&mut self) -> u32 {
+        match self.random.below(5) {
+            0 => self.random.pick(&[0, 1, 25, 26]),
+            1 => self.random.between(27, 31),
+            2 => self.random.below(4),
+            _ => self.random.below(27),
+        }
+    }
+
+    /// A count of errors, mostly just below one that changes the selected bit or the highest.
+    pub fn an_error_count(&mut self, threshold: u32) -> u32 {
+        let any = self.random.word() % COUNT_END;
+        let bit = match self.random.below(6) {
+            0 => return any,
+            1 => HIGHEST_THRESHOLD,
+            _ => threshold.min(HIGHEST_THRESHOLD),
+        };
+        let change = any >> bit << bit;
+        (COUNT_END + change - self.random.between(1, 3)) % COUNT_END
+    }
+
+    /// An address that names no error counter.
+    pub fn no_counter(&mut self) -> u32 {
+        match self.random.below(4) {
+            0 => 3,
+            1 => self
+                .random
+                .pick(&[4, 5, 7, 8, 0x7F0, 0x7F1, 0x7F2, 0x8000, 0xFFFF]),
+            // By its low bits it would name one.
+            2 => self.random.below(3) | 1 << self.random.between(2, 15),
+            _ => self.random.between(3, 0xFFFF),
+        }
+    }
+
+    /// One of the fifteen CSRs, mostly one of the controller's.
     pub fn a_csr(&mut self) -> u32 {
-        if self.random.chance(1, 4) {
-            self.random.pick(&TIMER_CSRS)
-        } else {
-            self.random.pick(&CSRS)
+        match self.random.below(8) {
+            0 | 1 => self.random.pick(&TIMER_CSRS),
+            2 => self.random.pick(&ERROR_CSRS),
+            _ => self.random.pick(&CSRS),
         }
     }
 
@@ -459,6 +517,35 @@ impl Script {
             _ => {
                 self.csr_read(MITCNT[timer]);
             }
+        }
+    }
+
+    /// An error or several, or an error counter written or read.
+    pub fn error_step(&mut self) {
+        let counter = self.random.below(3);
+        match self.random.below(12) {
+            0..=3 => {
+                self.error(counter);
+            }
+            4 => {
+                for _ in 0..self.random.between(2, 6) {
+                    self.error(counter);
+                }
+            }
+            5..=7 => {
+                let threshold = self.a_threshold();
+                let count = self.an_error_count(threshold);
+                self.set_errors(counter, threshold, count);
+            }
+            8 => {
+                let value = self.random.word();
+                self.csr_write(ERROR_CSRS[counter as usize], value);
+            }
+            9 => {
+                let address = self.no_counter();
+                self.error(address);
+            }
+            _ => self.read_errors(counter),
         }
     }
 
@@ -666,22 +753,23 @@ impl Script {
     }
 
     pub fn boundary_csr(&mut self) -> u32 {
-        let real = if self.random.chance(1, 3) {
-            self.random.pick(&TIMER_CSRS)
-        } else {
-            self.random.pick(&CSRS)
+        let real = match self.random.below(6) {
+            0 | 1 => self.random.pick(&TIMER_CSRS),
+            2 => self.random.pick(&ERROR_CSRS),
+            _ => self.random.pick(&CSRS),
         };
         match self.random.below(11) {
             0..=3 => real,
-            4 => self
-                .random
-                .pick(&[0x7D1, 0x7D8, 0xBC7, 0xBCD, 0xFC7, 0xFC9]),
+            4 => self.random.pick(&[
+                0x7D1, 0x7D8, 0x7EF, 0x7F3, 0x7F8, 0xBC7, 0xBCD, 0xFC7, 0xFC9,
+            ]),
             5 => real | 0x1000 << self.random.below(4),
             6 => self.random.pick(&[
-                0x1BC8, 0x1FC8, 0xFBC8, 0x17D2, 0xF7D7, 0, 0xFFFF, 0x7C8, 0xBC0, 0xBD2, 0xFCC,
+                0x1BC8, 0x1FC8, 0xFBC8, 0x17D2, 0xF7D7, 0x17F0, 0xF7F2, 0, 0xFFFF, 0x7C8, 0xBC0,
+                0xBD2, 0xFCC,
             ]),
             7 => real ^ 1 << self.random.below(16),
-            8 => 0x7D0 + self.random.below(0x10),
+            8 => 0x7D0 + self.random.below(0x30),
             9 => 0xB00 + self.random.below(0x100),
             _ => self.random.below(0x10000),
         }
@@ -712,8 +800,10 @@ impl Script {
     /// An event that is refused, in most states.
     pub fn refused_step(&mut self) {
         let value = self.random.word();
-        let no_csrs = [0x7D1, 0x7D8, 0x17D2, 0xBC7, 0xBCD, 0x1BCC, 0xFC9];
-        match self.random.below(14) {
+        let no_csrs = [
+            0x7D1, 0x7D8, 0x7EF, 0x7F3, 0x17D2, 0x17F2, 0xBC7, 0xBCD, 0x1BCC, 0xFC9,
+        ];
+        match self.random.below(15) {
             0 => {
                 let word = self.random.pick(&[8, 9, 16, 0x100, 0x8000, 0xFFFF]);
                 self.sample(word, value);
@@ -761,6 +851,10 @@ impl Script {
             12 => {
                 self.switch();
             }
+            13 => {
+                let address = self.no_counter();
+                self.error(address);
+            }
             _ => {
                 self.set_mask(1);
             }
@@ -793,6 +887,7 @@ impl Script {
             weights.csr_write,
             weights.service,
             weights.timer,
+            weights.error,
             weights.blind,
             weights.boundary,
             weights.refused,
@@ -815,7 +910,8 @@ impl Script {
             5 => self.legal_csr_write(),
             6 => self.serve(),
             7 => self.timer_step(),
-            8 => {
+            8 => self.error_step(),
+            9 => {
                 let kind = self.random.between(TAKE, SET_MASK);
                 let value = if kind == SET_MASK {
                     self.random.below(2)
@@ -824,7 +920,7 @@ impl Script {
                 };
                 self.event(kind, 0, value);
             }
-            9 => self.boundary(),
+            10 => self.boundary(),
             _ => self.refused_step(),
         }
     }
@@ -851,6 +947,7 @@ impl Script {
             self.csr_read(address);
         }
         self.read_timers();
+        self.read_all_errors();
         self.load(0x3000);
         self.pending_words();
         for &source in &shown {

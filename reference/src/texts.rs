@@ -1,7 +1,6 @@
 //! Test texts from a seed, in families.
 
-use crate::event::{Event, KINDS};
-use crate::generate::{self, bad_kind, small_record, turn, use_unused, with_events};
+use crate::generate::{self, bad_kind, bare_event, small_record, turn, use_unused, with_events};
 use crate::random::Random;
 use crate::record::{self, Record, BOARD};
 use crate::text::{canonical, MOST_BYTES};
@@ -410,7 +409,7 @@ fn spoil_unused(record: &mut Record, random: &mut Random) {
     let place = random.below(record.events.len() as u32) as usize;
     let event = &mut record.events[place];
     if random.coin() {
-        *event = Event::new(random.below(KINDS), 0, 0);
+        *event = bare_event(random);
     }
     use_unused(event, random);
 }

@@ -84,8 +84,9 @@ fn its_own_player_is_alike() {
     }
     assert!(text.contains("\nkind 9 (set mask): accepted "));
     assert!(text.contains("\nkind 10 (clock): accepted "));
+    assert!(text.contains("\nkind 11 (error): accepted "));
     assert!(!text.contains("\nrefusal 22: ") && !text.contains("\nrefusal 23: "));
-    assert!(text.contains("\nrefusal 24: "));
+    assert!(text.contains("\nrefusal 24: ") && text.contains("\nrefusal 25: "));
 }
 
 #[test]
@@ -104,6 +105,7 @@ fn its_own_compact_player_is_alike() {
         assert!(text.contains(&start), "{start}");
     }
     assert!(text.contains("\nkind 10 (clock): accepted "));
+    assert!(text.contains("\nkind 11 (error): accepted "));
     assert!(text.contains("\nrefusal 22: ") && text.contains("\nrefusal 23: "));
 }
 

@@ -1133,9 +1133,10 @@ fn other_families_take_in_both_orders_too() {
         "thresholds",
         "current",
         "timers",
+        "errors",
         "limits",
     ] {
-        let met = met(&records(family, 60));
+        let met = met(&records(family, 120));
         met.at_least(family, 20, &["take in 0", "take in 1"]);
     }
     let meets =

@@ -73,7 +73,7 @@ fn records_1_to_5() {
 fn records_6_and_7_with_their_places() {
     let good = 0x0005_0000;
     for (head, value, number) in [
-        (0x000B_0000, 0, 6),
+        (0x000C_0000, 0, 6),
         (0x000E_0000, 0, 6),
         (0x000E_0001, 1, 6),
         (0xFFFF_0000, 0, 6),
@@ -92,6 +92,10 @@ fn records_6_and_7_with_their_places() {
         (0x000A_8000, 0, 7),
         (0x000A_0000, 1, 7),
         (0x000A_0000, 0x8000_0000, 7),
+        (0x000B_0000, 1, 7),
+        (0x000B_0003, 1, 7),
+        (0x000B_FFFF, 0x8000_0000, 7),
+        (0x000C_0003, 1, 6),
     ] {
         let (heads, values) = ([good, head, 0xFFFF_0000], [0, value, 1]);
         assert_eq!(reading(&lay_out(3, 2, &heads, &values)), Some((number, 1)));
@@ -109,7 +113,7 @@ fn event_8_comes_first() {
     unsound.current = Field(16);
     assert_eq!(unsound.act(0xFFFF, 0, 0), refused(8));
     assert_eq!(unsound.query_margin(), Err(8));
-    let changes: [fn(&mut Machine); 21] = [
+    let changes: [fn(&mut Machine); 25] = [
         |machine| machine.sources.clear(),
         |machine| machine.sources[0].field = Field(16),
         |machine| machine.sources[3].field = Field(255),
@@ -132,6 +136,10 @@ fn event_8_comes_first() {
         |machine| machine.timers[0].control = 8,
         |machine| machine.timers[1].control = 8,
         |machine| machine.timers[1].control = 0x8000_0001,
+        |machine| machine.error_counters[0].threshold = 27,
+        |machine| machine.error_counters[1].threshold = u32::MAX,
+        |machine| machine.error_counters[1].count = 1 << 27,
+        |machine| machine.error_counters[2].count = u32::MAX,
     ];
     for change in changes {
         let mut machine = opened();
@@ -141,7 +149,9 @@ fn event_8_comes_first() {
         change(&mut machine);
         assert_eq!(machine.load(0), refused(8));
         assert_eq!(machine.clock(), refused(8));
-        // Before 6 and 7.
+        assert_eq!(machine.error(0), refused(8));
+        // Before 6, 7 and 25.
+        assert_eq!(machine.error(3), refused(8));
         assert_eq!(machine.act(CLOCK, 1, 1), refused(8));
         assert_eq!(machine.act(14, 0, 0), refused(8));
         assert_eq!(machine.query_margin(), Err(8));
@@ -161,7 +171,8 @@ fn events_9_to_14() {
     assert_eq!(machine.load(0x7FFD), refused(11));
     assert_eq!(machine.store(0x7FFE, 0), refused(11));
     for address in [
-        0xBC7, 0xBCD, 0xFC7, 0xFC9, 0x1BC8, 0xFBC8, 0, 0xFFFF, 0x7D1, 0x7D8, 0x17D2, 0x87D7,
+        0xBC7, 0xBCD, 0xFC7, 0xFC9, 0x1BC8, 0xFBC8, 0, 0xFFFF, 0x7D1, 0x7D8, 0x17D2, 0x87D7, 0x7EF,
+        0x7F3, 0x7F8, 0x17F0, 0x87F2,
     ] {
         assert_eq!(machine.csr_read(address), refused(12));
         assert_eq!(machine.csr_write(address, 0), refused(12));
@@ -212,6 +223,18 @@ fn event_24() {
         machine.set_mask(0);
         assert_eq!(machine.give_back(), ACCEPTED);
         assert_eq!(machine.store(0x3000, 1), ACCEPTED);
+    }
+}
+
+#[test]
+fn event_25() {
+    for mut machine in [machine(4), taken(), opened()] {
+        for counter in 0..=2 {
+            assert_eq!(machine.error(counter), answer(1));
+        }
+        for address in [3, 4, 0x7F0, 0x8000, 0xFFFF] {
+            assert_eq!(machine.error(address), refused(25));
+        }
     }
 }
 

@@ -19,11 +19,13 @@ use Rattle.pic_csrs.specs.Addresses.{csrAt}
 use Rattle.pic_csrs.specs.Values.{csrValue, csrWritten}
 use Rattle.pic_csrs.specs.Calls as csrs
 use Rattle.counters.specs.Timers as timers
+use Rattle.counters.specs.Errors as errors
+use Rattle.counters.specs.Whole as whole
 use Rattle.counters.specs.Csrs as counters
 use Rattle.handlers_stack.specs.Stacks.{handlerSound, belowOf, handlersSound, levelOf}
 use Rattle.handlers.specs.Machines.{powerOnOf, soundOf}
-use Rattle.handlers.specs.Service.{sampleEvent, loadEvent, storeEvent, csrReadEvent, controllerWrite, csrWriteEvent, takeEvent, openEvent, chainEvent, returnEvent, setMaskEvent, clockEvent, eventOf, soundStepOf}
-use Rattle.handlers.specs.Calls.{clockOf, stepOf, marginAnswer}
+use Rattle.handlers.specs.Service.{sampleEvent, loadEvent, storeEvent, csrReadEvent, controllerWrite, csrWriteEvent, takeEvent, openEvent, chainEvent, returnEvent, setMaskEvent, clockEvent, errorEvent, eventOf, soundStepOf}
+use Rattle.handlers.specs.Calls.{clockOf, errorOf, stepOf, marginAnswer}
 use Rattle.pic_laws.proofs.Sources.{field-15-never}
 use Rattle.handlers_laws.proofs.Ranks.{field-kept, meipl-stored}
 use Rattle.claims.specs.Play.{endOf, eachOf}
@@ -33,11 +35,11 @@ use Rattle.record.specs.Record.{recordOf}
 use Rattle.record.specs.Questions.{readVerdict, walkFrom}
 use Rattle.digits.specs.Ascii.{ascii}
 use Rattle.playback.specs.Print.{eventLines, printOf, compactPrintOf, printWithin}
-use Rattle.bench_points.specs.Points.{Points, Plays, Holds, after, handler, listing-text, fifteen-up, fifteen-down, fifteen-handlers, three-fields, high-first, low-first, both-back, with-meicurpl}
+use Rattle.bench_points.specs.Points.{Points, Plays, Holds, after, handler, listing-text, fifteen-up, fifteen-down, fifteen-handlers, three-fields, high-first, low-first, both-back, with-meicurpl, erring-up, erring-down}
 
 -- To unfold this is to unfold every rule.
 rules : Unit {0}
-unfolding printWithin eventLines ascii digitsTo readVerdict walkFrom wordsOf bytesOfWords endOf eachOf stepOf soundStepOf eventOf sampleEvent loadEvent storeEvent csrReadEvent controllerWrite csrWriteEvent takeEvent openEvent chainEvent returnEvent setMaskEvent clockEvent clockOf marginAnswer soundOf handlersSound handlerSound belowOf levelOf powerOnOf shapeOf calls.powerOnOf calls.sourceCount calls.priorityOrder calls.currentRank calls.setCurrent calls.meihapOf calls.captureOf calls.lookOf registers.sampleOf registers.loadOf registers.storeOf csrs.csrReadOf csrs.csrWriteOf sound.soundOf sound.sourcesSound sourceSound isPending isEligible entryOf betterOf winnerTo higherOf differenceOf joinOf wordTo placesTo sourceRegister pageRegister offsetRefusal readOf writtenOf csrAt csrValue csrWritten mirror closedForm timers.timerAt timers.withTimer timers.resetCounters timers.timerSound timers.soundOf timers.nextCount timers.clockOf counters.csrOf counters.csrAt counters.csrValue counters.csrWritten
+unfolding printWithin eventLines ascii digitsTo readVerdict walkFrom wordsOf bytesOfWords endOf eachOf stepOf soundStepOf eventOf sampleEvent loadEvent storeEvent csrReadEvent controllerWrite csrWriteEvent takeEvent openEvent chainEvent returnEvent setMaskEvent clockEvent clockOf errorEvent errorOf marginAnswer soundOf handlersSound handlerSound belowOf levelOf powerOnOf shapeOf calls.powerOnOf calls.sourceCount calls.priorityOrder calls.currentRank calls.setCurrent calls.meihapOf calls.captureOf calls.lookOf registers.sampleOf registers.loadOf registers.storeOf csrs.csrReadOf csrs.csrWriteOf sound.soundOf sound.sourcesSound sourceSound isPending isEligible entryOf betterOf winnerTo higherOf differenceOf joinOf wordTo placesTo sourceRegister pageRegister offsetRefusal readOf writtenOf csrAt csrValue csrWritten mirror closedForm timers.timerAt timers.withTimer timers.timerSound timers.nextCount timers.clockOf errors.heldOf errors.errorSound errors.counted errors.selectedBit errors.errorAt errors.withError errors.errorsSound errors.errorOf whole.resetCounters whole.soundOf counters.csrOf counters.csrAt counters.csrValue counters.csrWritten
 rules = tt
 
 -- The whole print and the long list apart from the table, since what one declaration may compute is limited.
@@ -80,6 +82,10 @@ fields-sound = refl
 fields-unsound : soundOf (with-meicurpl (after 4 (three-fields ++ high-first ++ low-first)) 14) ≡ false
 unfolding rules
 fields-unsound = refl
+
+errors-nested : Plays 4 (erring-up ++ erring-down)
+unfolding rules
+errors-nested = (refl, refl)
 
 pub points : Points
 unfolding rules
@@ -170,4 +176,22 @@ points =
       fields-sound = fields-sound;
       fields-unsound = fields-unsound;
       fields-print = refl;
+      errors-reset = (refl, refl);
+      errors-each = (refl, refl);
+      errors-held = refl;
+      errors-written = (refl, refl);
+      errors-again = (refl, refl);
+      errors-wrap = (refl, refl);
+      errors-wrap-0 = (refl, refl);
+      errors-26 = (refl, refl);
+      errors-25 = (refl, refl);
+      errors-questions = (refl, refl);
+      errors-read = refl;
+      errors-read-7 = refl;
+      errors-print = refl;
+      errors-sound = refl;
+      errors-unsound = refl;
+      errors-nested = errors-nested;
+      errors-nested-up = refl;
+      errors-nested-down = refl;
     }

@@ -1,5 +1,5 @@
 -- Document 01, "Bench points K1 to K10", the ends of the margin, the listing of "The player", a list that nests fifteen handlers, and the timers, the mirror, the
--- compact reader and the fields of document 02: one table about the rules. A point is a list of events played from power-on, each event with what it must answer or be refused
+-- compact reader, the fields and the error counters of document 02: one table about the rules. A point is a list of events played from power-on, each event with what it must answer or be refused
 -- with, and what the machine must hold after it; or bytes, and what a reader or a player must answer.
 use Prim.Native.Nat.{ℕ, zero, suc, _+_, _*_, _%_, _^_, _≤_}
 use Prim.Native.String.{String}
@@ -17,11 +17,13 @@ use Rattle.pic.specs.Fields.{withScalars, withCurrent}
 use Rattle.pic.specs.Sources.{fieldAt, rankAt, eligibleAt, winnerOf}
 use Rattle.pic.specs.Calls.{sourceCount, priorityOrder, currentRank}
 use Rattle.counters.specs.Timers.{withControl, withTimer, resetTimer}
+use Rattle.counters.specs.Errors.{counterOf, heldOf}
 use Rattle.handlers_stack.specs.declared.Handler.{Handler}
 use Rattle.handlers.specs.declared.Machine.{Machine}
 use Rattle.handlers.specs.Fields.{withController, withCounters}
 use Rattle.handlers.specs.Machines.{soundOf, powerOnOf}
-use Rattle.handlers.specs.Calls.{storeOf, clockOf, stepOf, marginAnswer}
+use Rattle.handlers.specs.Calls.{storeOf, clockOf, errorOf, stepOf, marginAnswer}
+use Rattle.handlers.specs.Errors.{withCounter}
 use Rattle.claims.specs.Play.{endOf, answersOf, refusalsOf}
 use Rattle.record.specs.declared.Verdict.{Verdict}
 use Rattle.record.specs.Record.{recordOf}
@@ -51,7 +53,7 @@ infix 80 _refused_
 abbrev pub _refused_ : Row → ℕ → Row
 e refused q = record { head = e .head; value = e .value; answer = 0; refusal = q }
 
--- The eleven kinds. Sample: a word number and its bits. Load and store: an offset. CSR read and write: a CSR. Set mask: the value.
+-- The twelve kinds. Sample: a word number and its bits. Load and store: an offset. CSR read and write: a CSR. Set mask: the value. Error: the counter.
 abbrev pub sample : ℕ → ℕ → Row
 sample x v = event 0 x v
 
@@ -84,6 +86,9 @@ mask v = event 9 0 v
 
 abbrev pub clock : Row
 clock = event 10 0 0
+
+abbrev pub error : ℕ → Row
+error i = event 11 i 0
 
 -- Offsets of registers, of source s or of word x, and the CSRs.
 abbrev pub meipl : ℕ → ℕ
@@ -131,6 +136,10 @@ mitb i = 0x7D3 + 3 * i
 
 abbrev pub mitctl : ℕ → ℕ
 mitctl i = 0x7D4 + 3 * i
+
+-- The CSR of error counter i: micect, miccmect, mdccmect.
+abbrev pub ect : ℕ → ℕ
+ect i = 0x7F0 + i
 
 -- The columns of a list of rows.
 abbrev pub headColumn : List Row → List ℕ
@@ -434,6 +443,57 @@ both-back =
 abbrev pub with-meicurpl : Machine → ℕ → Machine
 with-meicurpl m f = withController m (withScalars (m .controller) (withCurrent (m .controller .scalars) (field f)))
 
+-- What an error counter reads: its threshold and its count.
+abbrev pub register : ℕ → ℕ → ℕ
+register t n = t * 2 ^ 27 + n
+
+-- The three error counters read these.
+abbrev pub ects : ℕ → ℕ → ℕ → List Row
+ects a b c = csrRead (ect 0) answers a ∷ csrRead (ect 1) answers b ∷ csrRead (ect 2) answers c ∷ []
+
+-- What is read where each threshold below t is written with the count 5, the last last.
+abbrev pub heldColumn : ℕ → List ℕ
+heldColumn zero = []
+heldColumn (suc t) = heldColumn t ++ (heldOf (register t 5) .0 ∷ [])
+
+-- The thresholds below t with the count 5.
+abbrev pub registers : ℕ → List ℕ
+registers zero = []
+registers (suc t) = registers t ++ (register t 5 ∷ [])
+
+-- An error in counter i, with this answer, and what it reads then: in hexadecimal 0x08000000 is threshold 1, 0xC8000000 is 25 and 0xD0000000 is 26.
+abbrev pub counts-to : ℕ → ℕ → ℕ → List Row
+counts-to i a r = error i answers a ∷ csrRead (ect i) answers r ∷ []
+
+-- Sources 1 and 2 nest with errors before, between and after their taking and opening; counter 1 has threshold 1. Source 3 chains, and all return.
+abbrev pub erring-up : List Row
+erring-up =
+    csrWrite (ect 1) 0x08000001
+    ∷ ranked 2
+    ++ enabled 3 2
+    ++ (mask 1
+    ∷ sample 0 2
+    ∷ take answers 4
+    ∷ error 1 answers 1
+    ∷ open-handler answers 1
+    ∷ error 3 refused 25
+    ∷ sample 0 4
+    ∷ take answers 8
+    ∷ error 1 answers 1
+    ∷ open-handler answers 2
+    ∷ error 0 answers 1
+    ∷ sample 0 8
+    ∷ mask 0
+    ∷ chain answers 12
+    ∷ [])
+
+abbrev pub erring-down : List Row
+erring-down = error 2 answers 1 ∷ return answers 1 ∷ error 1 ∷ mask 0 ∷ return answers 0 ∷ ects 1 0x08000004 1
+
+-- A machine as power-on leaves it, but for error counter 1.
+abbrev pub erring : ℕ → ℕ → Machine
+erring t n = withCounter (start 4) 1 (counterOf t n)
+
 -- The table.
 pub record Points : Type 0 where
   -- K1, as document 02, No. 4, changes it: "field 5, priord set, reads 5, rank 10".
@@ -548,8 +608,8 @@ pub record Points : Type 0 where
   pub timers-both : Plays 4 (timer 0 0 0 1 ++ timer 1 7 7 0 ++ (clock answers 3 ∷ clock answers 1 ∷ clock answers 1 ∷ []) ++ counts 0 0)
   pub timers-highest :
       Plays 4 (timer 1 0xFFFFFFFE 0xFFFFFFFF 7 ++ (clock ∷ []) ++ counts 1 0xFFFFFFFF ++ (clock answers 2 ∷ []) ++ counts 2 0)
-  -- "Uses neither address nor value"; and there is no kind after it.
-  pub timers-unused : Plays 4 (event 10 1 0 refused 7 ∷ event 10 0 1 refused 7 ∷ event 11 0 0 refused 6 ∷ counts 0 0)
+  -- "Uses neither address nor value."
+  pub timers-unused : Plays 4 (event 10 1 0 refused 7 ∷ event 10 0 1 refused 7 ∷ counts 0 0)
   -- Control 7 is in range, 8 is not.
   pub timers-sound : soundOf (controlled 7) ≡ true
   pub timers-unsound : clockOf (controlled 8) ≡ record { machine = controlled 8; answer = 0; refusal = 8 }
@@ -609,7 +669,7 @@ pub record Points : Type 0 where
       ∷ []
   -- Fewer than 8 bytes; and an event of no kind, where the big reader's number and place are given.
   pub compact-1 : compactVerdict (0 ∷ 0 ∷ 0 ∷ 0 ∷ 64 ∷ 0 ∷ 0 ∷ []) ≡ verdict 1 0
-  pub compact-6 : compactVerdict (recordOf 63 (0x50000 ∷ 0xB0000 ∷ []) (0 ∷ 0 ∷ [])) ≡ verdict 6 1
+  pub compact-6 : compactVerdict (recordOf 63 (0x50000 ∷ 0xC0000 ∷ []) (0 ∷ 0 ∷ [])) ≡ verdict 6 1
   -- "A record that both accept prints the same lines on both."
   pub compact-listing : compactPrintOf (recordOf listingSources listingHeads listingValues) ≡ ascii listing-text
   pub compact-print-22 : compactPrintOf (sizes 0 64) ≡ ascii "refused 22 at 0\n"
@@ -658,3 +718,47 @@ pub record Points : Type 0 where
   pub fields-unsound : soundOf (with-meicurpl (after 4 (three-fields ++ high-first ++ low-first)) 14) ≡ false
   -- Level and margin are of ranks.
   pub fields-print : endLine (after 4 (store mpiccfg 1 ∷ csrWrite meipt 15 ∷ csrWrite meicurpl 3 ∷ [])) ≡ ascii "end open 0 level 12 margin -12\n"
+  -- Document 02, No. 5. At power-on the three read 0, and the first address on either side is refused. An error is counted in its own counter alone; with threshold 0 the
+  -- answer is bit 0 of the count afterwards.
+  pub errors-reset : Plays 4 (ects 0 0 0 ++ (csrRead 0x7EF refused 12 ∷ csrWrite 0x7EF 0 refused 12 ∷ csrRead 0x7F3 refused 12 ∷ csrWrite 0x7F3 0 refused 12 ∷ []))
+  pub errors-each : Plays 4 (error 0 answers 1 ∷ error 1 answers 1 ∷ error 2 answers 1 ∷ error 1 answers 0 ∷ ects 1 2 1)
+  -- "A written threshold of 27 to 31 is held as 26"; the others are kept, and all bits of the count are.
+  pub errors-held : heldColumn 32 ≡ registers 27 ++ (register 26 5 ∷ register 26 5 ∷ register 26 5 ∷ register 26 5 ∷ register 26 5 ∷ [])
+  pub errors-written :
+      Plays 4
+      (csrWrite (ect 1) 0xD0000007
+      ∷ csrRead (ect 1) answers 0xD0000007
+      ∷ csrWrite (ect 1) 0xD8000008
+      ∷ csrRead (ect 1) answers 0xD0000008
+      ∷ csrWrite (ect 2) 0xFFFFFFFF
+      ∷ csrRead (ect 2) answers 0xD7FFFFFF
+      ∷ [])
+  -- The answer is 1 whenever the bit is 1 afterwards, not only when it becomes so.
+  pub errors-again : Plays 4 (csrWrite (ect 0) 0x08000000 ∷ counts-to 0 0 0x08000001 ++ counts-to 0 1 0x08000002 ++ counts-to 0 1 0x08000003 ++ counts-to 0 0 0x08000004)
+  -- "After 2^27 − 1 comes 0", and the threshold stays; bit 26 falls there, and rises at 2^26. Bit 25 falls there.
+  pub errors-wrap : Plays 4 (csrWrite (ect 2) 0xD7FFFFFE ∷ counts-to 2 1 0xD7FFFFFF ++ counts-to 2 0 0xD0000000 ++ counts-to 2 0 0xD0000001)
+  pub errors-wrap-0 : Plays 4 (csrWrite (ect 0) 0x07FFFFFF ∷ counts-to 0 0 0x00000000 ++ counts-to 0 1 0x00000001)
+  pub errors-26 : Plays 4 (csrWrite (ect 1) 0xD3FFFFFE ∷ counts-to 1 0 0xD3FFFFFF ++ counts-to 1 1 0xD4000000 ++ counts-to 1 1 0xD4000001)
+  pub errors-25 : Plays 4 (csrWrite (ect 1) 0xCBFFFFFE ∷ counts-to 1 1 0xCBFFFFFF ++ counts-to 1 0 0xCC000000)
+  -- "25 when the address is above 2, after question 7"; its value is unused; there is no kind after it.
+  pub errors-questions :
+      Plays 4
+      (error 2 answers 1
+      ∷ error 3 refused 25
+      ∷ error 0xFFFF refused 25
+      ∷ event 11 3 1 refused 7
+      ∷ event 11 0 0xFFFFFFFF refused 7
+      ∷ event 12 0 0 refused 6
+      ∷ event 12 3 1 refused 6
+      ∷ ects 0 0 1)
+  -- "The record's reader and writer don't check it": a record with such addresses is read and played; 6 and 7 are asked.
+  pub errors-read : boardVerdict (recordOf 4 (0xB0003 ∷ 0xBFFFF ∷ []) (0 ∷ 0 ∷ [])) ≡ noRefusal
+  pub errors-read-7 : boardVerdict (recordOf 4 (0xB0003 ∷ 0xB0003 ∷ []) (0 ∷ 1 ∷ [])) ≡ verdict 7 1
+  pub errors-print : printOf (recordOf 4 (0xB0003 ∷ 0xB0002 ∷ []) (0 ∷ 0 ∷ [])) ≡ ascii "sources 4 events 2\n0 11 0 25\n1 11 1 0\nend open 0 level 0 margin 0\n"
+  -- Threshold 26 is in range with every count, 27 is not.
+  pub errors-sound : soundOf (erring 26 0x7FFFFFF) ≡ true
+  pub errors-unsound : errorOf (erring 27 0) 0 ≡ record { machine = erring 27 0; answer = 0; refusal = 8 }
+  -- Two handlers nest with errors between them, the second chains, and both return.
+  pub errors-nested : Plays 4 (erring-up ++ erring-down)
+  pub errors-nested-up : Holds (after 4 erring-up) 2 (handler 1 1 0 1 ∷ handler 3 2 1 1 ∷ []) 2
+  pub errors-nested-down : Holds (after 4 (erring-up ++ erring-down)) 0 [] 0

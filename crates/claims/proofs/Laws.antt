@@ -24,6 +24,7 @@ use Rattle.pic_laws.proofs.Captures.{Found, look-found, margin-over, above-over
 use Rattle.pic.proofs.Winning.{eligible-parts, eligible-is}
 use Rattle.counters.specs.declared.Counters.{Counters}
 use Rattle.counters.specs.Timers as timers
+use Rattle.counters.specs.Errors as errors
 use Rattle.counters.specs.Csrs as counters
 use Rattle.nesting.specs.Claim.{isOther, Does, Pushed, Swapped, Laws}
 use Rattle.nesting.specs.Held.{held}
@@ -135,7 +136,7 @@ module _ (m : Machine) (r : Ready m) where
   controller-does : (kind : ℕ) → (kind ≡ 5 → ⊥) → (kind ≡ 7 → ⊥) → (kind ≡ 8 → ⊥) → (o : controller.Outcome) → DoesBy kind m (lifted m o)
   controller-does kind a b c o = other-does kind (lifted m o) a b c refl
 
-  -- An event of the timers changes them alone: a clock opens no handler.
+  -- An event of the counters changes them alone: a clock or an error opens no handler.
   counters-do : (kind : ℕ) (t : Counters) (answer : ℕ) → (kind ≡ 5 → ⊥) → (kind ≡ 7 → ⊥) → (kind ≡ 8 → ⊥) → DoesBy kind m (accepted (withCounters m t) answer)
   counters-do kind t answer a b c = other-does kind (accepted (withCounters m t) answer) a b c refl
 
@@ -164,6 +165,7 @@ module _ (m : Machine) (r : Ready m) where
             };
         masks = λ f g. other-does 9 (accepted (withMask m v) 0) (λ e. omega arith) (λ e. omega arith) (λ e. omega arith) refl;
         clocks = counters-do 10 (timers.clockOf (m .counters) .counters) (timers.clockOf (m .counters) .answer) (λ e. omega arith) (λ e. omega arith) (λ e. omega arith);
+        errors = λ f. counters-do 11 (errors.errorOf (m .counters) a .counters) (errors.errorOf (m .counters) a .answer) (λ e. omega arith) (λ e. omega arith) (λ e. omega arith);
       })
 
 -- The laws of nested handlers hold of the machine.

@@ -1,14 +1,15 @@
--- Both timers, each by its number; and a clock keeps sound counters sound.
+-- Both timers, each by its number; and what keeps a timer sound.
 use Prim.Native.Nat.{ℕ, zero, suc, _+_, _*_, _/_, _%_, _^_, _≤_, _<_}
 use mathlib.Core.Path.{_≡_, refl}
 use mathlib.Core.Bool.{Bool, true, false, cond}
 use native.Mathlib.Omega.{arith}
 use lib.ListN.{getD}
 use borrow.Author.Tests.{leb-true, leb-false, ltb-true, lt-ltb, le-leb}
-use Rattle.pic_source.proofs.Bools.{and-parts, all-at}
+use Rattle.pic_source.proofs.Bools.{all-at}
 use Rattle.counters.specs.declared.Timer.{Timer}
 use Rattle.counters.specs.declared.Counters.{Counters}
-use Rattle.counters.specs.Timers.{timerAt, withTimer, resetCounters, timerTests, timerSound, soundOf, signals, isEnabled, nextCount, signalBit, clockOf}
+use Rattle.counters.specs.Timers.{timerAt, withTimer, timerTests, timerSound, signals, isEnabled, nextCount, signalBit, clockOf}
+use Rattle.counters.specs.Whole.{resetCounters}
 use Rattle.counters.specs.Each.{ResetEach, ClockedEach, NoOtherBits}
 use Rattle.counters.proofs.Testing.{signal-small}
 
@@ -54,33 +55,19 @@ pub record Sound (t : Timer) : Type 0 where
   pub bound : t .bound < 2 ^ 32
   pub control : t .control ≤ 7
 
-timer-facts : (t : Timer) → timerSound t ≡ true → Sound t
+pub timer-facts : (t : Timer) → timerSound t ≡ true → Sound t
 unfolding timerSound
 timer-facts t e = record { count = ltb-true _ _ (at 0); bound = ltb-true _ _ (at 1); control = leb-true _ _ (at 2) }
   where
     at : (i : ℕ) → getD (timerTests t) i true ≡ true
     at = all-at (timerTests t) e
 
-timer-sound : (t : Timer) → Sound t → timerSound t ≡ true
+pub timer-sound : (t : Timer) → Sound t → timerSound t ≡ true
 unfolding timerSound
 timer-sound t f = rw (lt-ltb (t .count) (2 ^ 32) (f .count), lt-ltb (t .bound) (2 ^ 32) (f .bound)) (le-leb (t .control) 7 (f .control))
 
--- Counters are sound just when each timer is.
-pub facts : (c : Counters) → soundOf c ≡ true → (i : ℕ) → Sound (timerAt c i)
-unfolding soundOf timerAt
-facts c e zero = timer-facts (c .timer0) (and-parts (timerSound (c .timer0)) (timerSound (c .timer1)) e .0)
-facts c e (suc i) = timer-facts (c .timer1) (and-parts (timerSound (c .timer0)) (timerSound (c .timer1)) e .1)
-
-pub sound : (c : Counters) → ((i : ℕ) → i < 2 → Sound (timerAt c i)) → soundOf c ≡ true
-unfolding soundOf timerAt
-sound c f = rw (timer-sound (c .timer0) (f 0 (omega arith))) (timer-sound (c .timer1) (f 1 (omega arith)))
-
-pub reset-sound : soundOf resetCounters ≡ true
-unfolding soundOf timerSound resetCounters
-reset-sound = refl
-
 -- A counter that goes up is below its bound, so that it does not leave its 32 bits.
-next-fits : (t : Timer) → Sound t → nextCount t < 2 ^ 32
+pub next-fits : (t : Timer) → Sound t → nextCount t < 2 ^ 32
 unfolding nextCount
 next-fits t f = go (signals t) refl (isEnabled t)
   where
@@ -88,8 +75,3 @@ next-fits t f = go (signals t) refl (isEnabled t)
     go true h e = omega arith
     go false h true = let l = leb-false (t .bound) (t .count) h in omega (arith, l, f .bound)
     go false h false = f .count
-
-pub clock-sound : (c : Counters) → soundOf c ≡ true → soundOf (clockOf c .counters) ≡ true
-clock-sound c e =
-    sound (clockOf c .counters)
-    (λ i h. let f = facts c e i in rw (clocked-each c i h .timer) (record { count = next-fits (timerAt c i) f; bound = f .bound; control = f .control }))

@@ -1,24 +1,29 @@
 -- Document 02, No. 1: "counter, bound and control for timers 0 and 1, CSRs 0x7D2 to 0x7D7, fields and reset values as its tables 4-1 to 4-3", which are document 004's.
+-- No. 5: "CSRs 0x7F0, 0x7F1, 0x7F2", of its section 3.5.
 use Prim.Native.Nat.{ℕ, _+_, _-_, _*_, _/_, _%_}
 use mathlib.Core.Bool.{Bool, false, cond, _&&_}
 use lib.Dec.{leb, ltb, eqb}
 use Rattle.counters.specs.declared.Counters.{Counters}
 use Rattle.counters.specs.declared.Csr.{Csr}
-use Rattle.counters.specs.declared.Csr.the-variants.{Mitcnt, Mitb, Mitctl, NoCsr}
+use Rattle.counters.specs.declared.Csr.the-variants.{Mitcnt, Mitb, Mitctl, Ect, NoCsr}
 use Rattle.counters.specs.Timers.{withCount, withBound, withControl, timerAt, withTimer}
+use Rattle.counters.specs.Errors.{heldOf, errorAt, withError, withErrors}
 
--- Timer i has three CSRs in a row, from 0x7D2 + 3 × i on: mitcnt, its counter; mitb, its bound; mitctl, its control.
+-- Timer i has three CSRs in a row, from 0x7D2 + 3 × i on: mitcnt, its counter; mitb, its bound; mitctl, its control. Error counter i has one, 0x7F0 + i: micect,
+-- miccmect or mdccmect.
 abbrev pub csrAddress : Csr → ℕ
 csrAddress (Mitcnt i) = 0x7D2 + 3 * i
 csrAddress (Mitb i) = 0x7D2 + 3 * i + 1
 csrAddress (Mitctl i) = 0x7D2 + 3 * i + 2
+csrAddress (Ect i) = 0x7F0 + i
 csrAddress NoCsr = 0
 
--- Whether there is such a CSR: there are timers 0 and 1.
+-- Whether there is such a CSR: there are timers 0 and 1, and error counters 0 to 2.
 abbrev pub isCsr : Csr → Bool
 isCsr (Mitcnt i) = ltb i 2
 isCsr (Mitb i) = ltb i 2
 isCsr (Mitctl i) = ltb i 2
+isCsr (Ect i) = ltb i 3
 isCsr NoCsr = false
 
 -- The CSR of timer i that is k places on from its first.
@@ -27,18 +32,24 @@ csrOf i k = cond (eqb k 0) (Mitcnt i) (cond (eqb k 1) (Mitb i) (Mitctl i))
 
 -- The CSR that has an address. `address-csr` and `csr-address` of the laws say that it is the one whose address it is.
 unfoldable pub csrAt : ℕ → Csr
-csrAt a = cond (leb 0x7D2 a && ltb a 0x7D8) (csrOf ((a - 0x7D2) / 3) ((a - 0x7D2) % 3)) NoCsr
+csrAt a =
+    cond (leb 0x7D2 a && ltb a 0x7D8) (csrOf ((a - 0x7D2) / 3) ((a - 0x7D2) % 3))
+    (cond (leb 0x7F0 a && ltb a 0x7F3) (Ect (a - 0x7F0))
+    NoCsr)
 
--- What a CSR reads.
+-- What a CSR reads: of an error counter, threshold × 2^27 + count.
 unfoldable pub csrValue : Counters → Csr → ℕ
 csrValue c (Mitcnt i) = timerAt c i .count
 csrValue c (Mitb i) = timerAt c i .bound
 csrValue c (Mitctl i) = timerAt c i .control
+csrValue c (Ect i) = errorAt (c .errors) i .0
 csrValue c NoCsr = 0
 
--- What a CSR write changes. mitcnt and mitb take all 32 bits; of mitctl bits 2:0 are kept, the others dropped and read 0.
+-- What a CSR write changes. mitcnt and mitb take all 32 bits; of mitctl bits 2:0 are kept, the others dropped and read 0. An error counter
+-- takes the count, and the threshold as it is held.
 unfoldable pub csrWritten : Counters → Csr → ℕ → Counters
 csrWritten c (Mitcnt i) v = withTimer c i (withCount (timerAt c i) v)
 csrWritten c (Mitb i) v = withTimer c i (withBound (timerAt c i) v)
 csrWritten c (Mitctl i) v = withTimer c i (withControl (timerAt c i) (v % 8))
+csrWritten c (Ect i) v = withErrors c (withError (c .errors) i (heldOf v))
 csrWritten c NoCsr v = c

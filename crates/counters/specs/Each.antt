@@ -1,11 +1,13 @@
--- Document 02, No. 1: "One statement covers both timers." What is said of each timer by its number, and of each of their CSRs.
+-- Document 02, No. 1: "One statement covers both timers." What is said of each timer by its number, and of each CSR of the counters.
 use Prim.Native.Nat.{ℕ, _/_, _%_, _^_, _<_}
 use mathlib.Core.Path.{_≡_}
 use mathlib.Core.Bool.{true}
 use Rattle.counters.specs.declared.Counters.{Counters}
 use Rattle.counters.specs.declared.Csr.{Csr}
-use Rattle.counters.specs.declared.Csr.the-variants.{Mitcnt, Mitb, Mitctl, NoCsr}
-use Rattle.counters.specs.Timers.{timerAt, resetTimer, resetCounters, signalBit, afterClock, clockOf}
+use Rattle.counters.specs.declared.Csr.the-variants.{Mitcnt, Mitb, Mitctl, Ect, NoCsr}
+use Rattle.counters.specs.Timers.{timerAt, resetTimer, signalBit, afterClock, clockOf}
+use Rattle.counters.specs.Errors.{heldOf}
+use Rattle.counters.specs.Whole.{resetCounters}
 use Rattle.counters.specs.Csrs.{isCsr, csrValue, csrWritten}
 
 -- Power-on leaves every timer with the reset values.
@@ -29,9 +31,10 @@ abbrev pub keptBy : Csr → ℕ → ℕ
 keptBy (Mitcnt i) v = v
 keptBy (Mitb i) v = v
 keptBy (Mitctl i) v = v % 8
+keptBy (Ect i) v = heldOf v .0
 keptBy NoCsr v = 0
 
--- A CSR reads what it kept of the last write to it, and the other five read as before.
+-- A CSR reads what it kept of the last write to it, and the other eight read as before.
 pub record WrittenOne (c : Counters) (r : Csr) (v : ℕ) : Type 0 where
   pub itself : csrValue (csrWritten c r v) r ≡ keptBy r v
   pub others : (q : Csr) → isCsr q ≡ true → (q ≡ r → ⊥) → csrValue (csrWritten c r v) q ≡ csrValue c q

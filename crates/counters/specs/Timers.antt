@@ -1,12 +1,12 @@
 -- Document 02, No. 1, "Internal timers", and document 004, chapter 4: what the two timers hold, and what a clock does.
 use Prim.Native.Nat.{ℕ, zero, suc, _+_, _*_, _%_, _^_}
-use mathlib.Core.Bool.{Bool, cond, _&&_}
+use mathlib.Core.Bool.{Bool, cond}
 use mathlib.Core.List.{List, [], _∷_}
 use lib.Dec.{leb, ltb, eqb}
 use Rattle.pic_source.specs.Tests.{allHold}
 use Rattle.counters.specs.declared.Timer.{Timer}
 use Rattle.counters.specs.declared.Counters.{Counters}
-use Rattle.counters.specs.declared.Clocked.{Clocked}
+use Rattle.counters.specs.declared.Counted.{Counted}
 
 -- A timer with another counter, bound or control.
 abbrev pub withCount : Timer → ℕ → Timer
@@ -25,15 +25,12 @@ timerAt c zero = c .timer0
 timerAt c (suc i) = c .timer1
 
 unfoldable pub withTimer : Counters → ℕ → Timer → Counters
-withTimer c zero t = record { timer0 = t; timer1 = c .timer1 }
-withTimer c (suc i) t = record { timer0 = c .timer0; timer1 = t }
+withTimer c zero t = record { timer0 = t; timer1 = c .timer1; errors = c .errors }
+withTimer c (suc i) t = record { timer0 = c .timer0; timer1 = t; errors = c .errors }
 
 -- "Power-on sets these reset values": the counter is 0, all bits of the bound are 1, and of the control only enable, bit 0, is 1.
 abbrev pub resetTimer : Timer
 resetTimer = record { count = 0; bound = 0xFFFFFFFF; control = 1 }
-
-unfoldable pub resetCounters : Counters
-resetCounters = record { timer0 = resetTimer; timer1 = resetTimer }
 
 -- "A machine is sound only if each field added here or later is in its range too, with unused bits 0": counter and bound have 32 bits, the control three.
 abbrev pub timerTests : Timer → List Bool
@@ -41,9 +38,6 @@ timerTests t = ltb (t .count) (2 ^ 32) ∷ ltb (t .bound) (2 ^ 32) ∷ leb (t .c
 
 unfoldable pub timerSound : Timer → Bool
 timerSound t = allHold (timerTests t)
-
-unfoldable pub soundOf : Counters → Bool
-soundOf c = timerSound (c .timer0) && timerSound (c .timer1)
 
 -- "A counter at or above its bound when the clock comes is cleared and signals", enabled or not;
 abbrev pub signals : Timer → Bool
@@ -64,9 +58,9 @@ afterClock t = withCount t (nextCount t)
 abbrev pub signalBit : Timer → ℕ
 signalBit t = cond (signals t) 1 0
 
-unfoldable pub clockOf : Counters → Clocked
+unfoldable pub clockOf : Counters → Counted
 clockOf c =
     record {
-      counters = record { timer0 = afterClock (c .timer0); timer1 = afterClock (c .timer1) };
+      counters = record { timer0 = afterClock (c .timer0); timer1 = afterClock (c .timer1); errors = c .errors };
       answer = signalBit (c .timer0) + 2 * signalBit (c .timer1);
     }

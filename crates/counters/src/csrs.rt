@@ -4,6 +4,7 @@ ghost use mathlib.Core.Path.{_≡_};
 ghost use Rattle.counters.specs.Csrs.{isCsr, csrOf, csrAt, csrValue, csrWritten};
 use crate::Counters;
 use crate::Csr;
+use crate::ErrorCounter;
 
 // The CSR of timer i that is k places on from its first.
 fn csr_of(i: u8, k: u32) -> Csr
@@ -24,6 +25,9 @@ pub fn csr_at(address: u32) -> Csr
         let k = address - 0x7D2;
         return csr_of((k / 3) as u8, k % 3);
     }
+    if (0x7F0 <= address) & (address < 0x7F3) {
+        return Csr::Ect((address - 0x7F0) as u8);
+    }
     Csr::NoCsr
 }
 
@@ -35,6 +39,7 @@ pub fn is_csr(csr: Csr) -> bool
         Csr::Mitcnt(i) => i < 2,
         Csr::Mitb(i) => i < 2,
         Csr::Mitctl(i) => i < 2,
+        Csr::Ect(i) => i < 3,
         Csr::NoCsr => false,
     }
 }
@@ -48,12 +53,13 @@ impl Counters {
             Csr::Mitcnt(i) => self.timer(i).count,
             Csr::Mitb(i) => self.timer(i).bound,
             Csr::Mitctl(i) => self.timer(i).control,
+            Csr::Ect(i) => self.errors.counter(i).0,
             Csr::NoCsr => 0,
         }
     }
 
     // A write of v to a CSR.
-    pub fn csr_written(self, csr: Csr, v: u32) -> Counters
+    pub fn csr_written(mut self, csr: Csr, v: u32) -> Counters
         ensures { λ r. ⌜ r ≡ csrWritten self csr v ⌝ }
     {
         match csr {
@@ -71,6 +77,11 @@ impl Counters {
                 let mut t = self.timer(i);
                 t.control = v % 8;
                 self.with_timer(i, t)
+            }
+            Csr::Ect(i) => {
+                let e = self.errors;
+                self.errors = e.with_counter(i, ErrorCounter::held(v));
+                self
             }
             Csr::NoCsr => self,
         }

@@ -1,14 +1,14 @@
-// The timers: reset values, soundness, and one clock.
+// The timers: soundness of one, and one clock of both.
 
 ghost use mathlib.Core.Path.{_≡_};
-ghost use Rattle.counters.specs.Timers.{timerAt, withTimer, resetCounters, timerSound, soundOf, signalBit, nextCount, afterClock, clockOf};
-use crate::Clocked;
+ghost use Rattle.counters.specs.Timers.{timerAt, withTimer, timerSound, signalBit, nextCount, afterClock, clockOf};
+use crate::Counted;
 use crate::Counters;
 use crate::Timer;
 
 impl Timer {
     // Whether the timer is sound. Counter and bound are in range by their type.
-    fn is_sound(self) -> bool
+    pub(crate) fn is_sound(self) -> bool
         ensures { λ r. ⌜ r ≡ timerSound self ⌝ }
     {
         self.control <= 7
@@ -44,32 +44,6 @@ impl Timer {
 }
 
 impl Counters {
-    // The counters as power-on leaves them.
-    pub fn reset() -> Counters
-        ensures { λ r. ⌜ r ≡ resetCounters ⌝ }
-    {
-        let t = Timer {
-            count: 0,
-            bound: 0xFFFFFFFF,
-            control: 1,
-        };
-        Counters {
-            timer0: t,
-            timer1: t,
-        }
-    }
-
-    // Whether the counters are sound.
-    pub fn is_sound(self) -> bool
-        ensures { λ r. ⌜ r ≡ soundOf self ⌝ }
-    {
-        let t = self.timer0;
-        let u = self.timer1;
-        let a = t.is_sound();
-        let b = u.is_sound();
-        a & b
-    }
-
     // Timer i, 0 or 1.
     pub(crate) fn timer(self, i: u8) -> Timer
         ensures { λ r. ⌜ r ≡ timerAt self i ⌝ }
@@ -90,19 +64,17 @@ impl Counters {
     }
 
     // One clock.
-    pub fn clock(self) -> Clocked
+    pub fn clock(mut self) -> Counted
         ensures { λ r. ⌜ r ≡ clockOf self ⌝ }
     {
         let t = self.timer0;
         let u = self.timer1;
-        let next = Counters {
-            timer0: t.clock(),
-            timer1: u.clock(),
-        };
         let a = t.signal();
         let b = u.signal();
-        Clocked {
-            counters: next,
+        self.timer0 = t.clock();
+        self.timer1 = u.clock();
+        Counted {
+            counters: self,
             answer: a + 2 * b,
         }
     }

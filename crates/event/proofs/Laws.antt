@@ -7,7 +7,7 @@ use native.Mathlib.Omega.{arith}
 use lib.ListN.{length}
 use lib.Dec.{lit≤}
 use borrow.Author.Tests.{lt-ltb, le-ltb, ltb-true, ltb-false}
-use Rattle.event.specs.Event.{kinds, kindOf, addressOf, isKind, unusedAreZero, shapeOf}
+use Rattle.event.specs.Event.{kinds, kindOf, addressOf, isKind, unusedAreZero, shapeOf, ErrorShape}
 
 -- A kind is printed in at most two digits.
 pub kinds-two-digits : length kinds ≤ 100
@@ -43,3 +43,7 @@ first-question head value = go (isKind (kindOf head)) (unusedAreZero (kindOf hea
     go true true h = absurd (h refl)
     go true false h = inr (refl, refl, refl)
     go false seven h = inl (refl, refl)
+
+pub error-shape : ErrorShape
+unfolding shapeOf
+error-shape head value e = rw e

@@ -1,5 +1,6 @@
 -- Document 01, "Events and registers": the head and the value of an event; questions 6 and 7.
 use Prim.Native.Nat.{ℕ, _/_, _%_}
+use mathlib.Core.Path.{_≡_}
 use mathlib.Core.Bool.{Bool, true, false, cond, _&&_, _||_}
 use mathlib.Core.List.{List, [], _∷_}
 use lib.ListN.{length, getD}
@@ -19,7 +20,7 @@ abbrev uses : Bool → Bool → Uses
 uses address value = record { 0 = address; 1 = value }
 
 -- One row for each kind. Kinds 5 to 9 don't use the address; kinds 1, 3, 5, 6, 7, 8 don't use the value. "Kind 10 is one clock and uses neither address nor
--- value" (document 02, No. 1).
+-- value" (document 02, No. 1). "Kind 11 counts one error in the counter that its address names ...; its value is unused" (No. 5).
 abbrev pub kinds : List Uses
 kinds =
     uses true true  -- 0 sample
@@ -33,9 +34,10 @@ kinds =
     ∷ uses false false  -- 8 return
     ∷ uses false true  -- 9 set mask to the value
     ∷ uses false false  -- 10 clock
+    ∷ uses true false  -- 11 error
     ∷ []
 
--- 6. Is the kind 0..10? It has a row.
+-- 6. Is the kind 0..11? It has a row.
 abbrev pub isKind : ℕ → Bool
 isKind k = ltb k (length kinds)
 
@@ -50,3 +52,7 @@ unusedAreZero kind address value = (rowOf kind .0 || eqb address 0) && (rowOf ki
 -- Questions 6 and 7, first no decides; 0 where both are answered yes.
 unfoldable pub shapeOf : ℕ → ℕ → ℕ
 shapeOf head value = cond (isKind (kindOf head)) (cond (unusedAreZero (kindOf head) (addressOf head) value) 0 7) 6
+
+-- Document 02, No. 5: "the record's reader and writer don't check" question 25. Of an event of kind 11 they ask that the value is 0, and nothing of the address.
+abbrev pub ErrorShape : Type 0
+ErrorShape = (head value : ℕ) → kindOf head ≡ 11 → shapeOf head value ≡ cond (eqb value 0) 0 7

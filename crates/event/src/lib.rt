@@ -7,7 +7,7 @@ ghost use Rattle.event.specs.Event.{kindOf, addressOf, shapeOf};
 struct Uses(bool, bool);
 
 // One row for each kind, in the order of their numbers.
-const KINDS: [Uses; 11] = [
+const KINDS: [Uses; 12] = [
     Uses(true, true), // 0 sample
     Uses(true, false), // 1 load
     Uses(true, true), // 2 store
@@ -19,6 +19,7 @@ const KINDS: [Uses; 11] = [
     Uses(false, false), // 8 return
     Uses(false, true), // 9 set mask
     Uses(false, false), // 10 clock
+    Uses(true, false), // 11 error
 ];
 
 // The kind of a head.

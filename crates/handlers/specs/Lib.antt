@@ -5,5 +5,7 @@ pub mod Service
 pub mod Calls
 pub mod Checked
 pub mod Latches
+pub mod Csrs
 pub mod Timers
 pub mod Switches
+pub mod Errors

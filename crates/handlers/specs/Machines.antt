@@ -1,4 +1,4 @@
--- Document 01, "What a machine holds": the machine, power-on, and when it is sound. Document 02, No. 1, adds the timers.
+-- Document 01, "What a machine holds": the machine, power-on, and when it is sound. Document 02 adds the timers (No. 1) and the error counters (No. 5).
 use Prim.Native.Nat.{ℕ}
 use mathlib.Core.Bool.{Bool, _||_}
 use mathlib.Core.List.{List, [], _∷_}
@@ -7,7 +7,7 @@ use lib.Dec.{leb, eqb}
 use Rattle.pic_source.specs.Tests.{allHold}
 use Rattle.pic.specs.Sound as pic
 use Rattle.pic.specs.Calls as calls
-use Rattle.counters.specs.Timers as timers
+use Rattle.counters.specs.Whole as counters
 use Rattle.handlers_stack.specs.declared.Handler.{Handler}
 use Rattle.handlers_stack.specs.Stacks.{blank, uppermostOf, handlersSound, levelOf}
 use Rattle.handlers.specs.declared.Machine.{Machine}
@@ -17,11 +17,11 @@ use Rattle.handlers.specs.declared.Outcome.{Outcome}
 abbrev pub uppermost : Machine → Handler
 uppermost m = uppermostOf (m .stack) (m .depth)
 
--- Power-on with N sets all else to 0, the stack empty, and the timers to their reset values. With an N that is refused it hands back the machine of N 2.
+-- Power-on with N sets all else to 0, the stack empty, and timers and error counters to their reset values. With an N that is refused it hands back the machine of N 2.
 unfoldable pub powerOnOf : ℕ → Outcome
 powerOnOf n =
     record {
-      machine = record { controller = calls.powerOnOf n .controller; mask = 0; depth = 0; stack = replicate 15 blank; counters = timers.resetCounters };
+      machine = record { controller = calls.powerOnOf n .controller; mask = 0; depth = 0; stack = replicate 15 blank; counters = counters.resetCounters };
       answer = 0;
       refusal = calls.powerOnOf n .refusal;
     }
@@ -48,7 +48,7 @@ soundTests m =
     ∷ currentFits m
     ∷ maskFits m
     ∷ pic.soundOf (m .controller)
-    ∷ timers.soundOf (m .counters)
+    ∷ counters.soundOf (m .counters)
     ∷ []
 
 unfoldable pub soundOf : Machine → Bool

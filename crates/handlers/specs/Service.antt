@@ -1,4 +1,4 @@
--- Document 01, "Handler service", and the questions 12 to 21; document 02, No. 1 and No. 4: what each event does and answers, once question 8 is answered yes. The rules are
+-- Document 01, "Handler service", and the questions 12 to 21; document 02, No. 1, No. 4 and No. 5: what each event does and answers, once question 8 is answered yes. The rules are
 -- total: on a machine that is not sound they say what the code does, and question 8 keeps that from every caller.
 use Prim.Native.Nat.{ℕ, _+_, _-_, _%_, _^_}
 use mathlib.Core.Bool.{Bool, cond, not, _&&_, _||_}
@@ -14,6 +14,7 @@ use Rattle.pic.specs.Calls.{priorityOrder, currentRank, setCurrent, captureOf, 
 use Rattle.pic_registers.specs.Calls as registers
 use Rattle.pic_csrs.specs.Calls as csrs
 use Rattle.counters.specs.Timers as timers
+use Rattle.counters.specs.Errors as errors
 use Rattle.counters.specs.Csrs as counters
 use Rattle.handlers_stack.specs.declared.Handler.{Handler}
 use Rattle.handlers.specs.declared.Machine.{Machine}
@@ -55,7 +56,7 @@ mayStore m offset v = not (switches m offset v) || eqb (m .depth) 0
 unfoldable pub storeEvent : Machine → ℕ → ℕ → Outcome
 storeEvent m offset v = ask m (mayStore m offset v) 24 (lifted m (registers.storeOf (m .controller) offset v))
 
--- "Questions 6 and 12 widen to the new kind and CSRs": a CSR of the counters, which are the timers, is read and written there; any other address is the controller's,
+-- "Questions 6 and 12 widen": a CSR of the counters, which are the timers and the error counters, is read and written there; any other address is the controller's,
 -- which asks 12.
 abbrev pub ofCounters : ℕ → Bool
 ofCounters a = counters.isCsr (counters.csrAt a)
@@ -72,7 +73,7 @@ mayWrite m a = not (eqb a 0xBCC) || eqb (m .depth) 0
 unfoldable pub controllerWrite : Machine → ℕ → ℕ → Outcome
 controllerWrite m a v = ask m (mayWrite m a) 14 (lifted m (csrs.csrWriteOf (m .controller) a v))
 
--- CSR write. 13 and 14 are asked of no CSR of a timer.
+-- CSR write. 13 and 14 are asked of no CSR of the counters.
 unfoldable pub csrWriteEvent : Machine → ℕ → ℕ → Outcome
 csrWriteEvent m a v =
     cond (ofCounters a) (accepted (withCounters m (counters.csrWritten (m .counters) (counters.csrAt a) v)) 0) (controllerWrite m a v)
@@ -181,8 +182,16 @@ setMaskEvent m v =
 unfoldable pub clockEvent : Machine → Outcome
 clockEvent m = accepted (withCounters m (timers.clockOf (m .counters) .counters)) (timers.clockOf (m .counters) .answer)
 
--- An event by its kind: 0 sample, 1 load, 2 store, 3 CSR read, 4 CSR write, 5 take, 6 open, 7 chain, 8 return, 9 set mask to the value, 10 clock. A kind that there
--- is not is refused with 6.
+-- Error: one error in the counter that the address names. Document 02, No. 5: "25 when the address is above 2". Answer: the bit of the count that the threshold
+-- selects, afterwards.
+abbrev pub mayCount : ℕ → Bool
+mayCount a = leb a 2
+
+unfoldable pub errorEvent : Machine → ℕ → Outcome
+errorEvent m a = ask m (mayCount a) 25 (accepted (withCounters m (errors.errorOf (m .counters) a .counters)) (errors.errorOf (m .counters) a .answer))
+
+-- An event by its kind: 0 sample, 1 load, 2 store, 3 CSR read, 4 CSR write, 5 take, 6 open, 7 chain, 8 return, 9 set mask to the value, 10 clock, 11 error. A kind that
+-- there is not is refused with 6.
 unfoldable pub eventOf : Machine → ℕ → ℕ → ℕ → Outcome
 eventOf m kind address value =
     cond (eqb kind 0) (sampleEvent m address value)
@@ -196,7 +205,8 @@ eventOf m kind address value =
     (cond (eqb kind 8) (returnEvent m)
     (cond (eqb kind 9) (setMaskEvent m value)
     (cond (eqb kind 10) (clockEvent m)
-    (refused m 6)))))))))))
+    (cond (eqb kind 11) (errorEvent m address)
+    (refused m 6))))))))))))
 
 -- An event on a machine that is known to be sound: 6 and 7, then its kind's.
 unfoldable pub soundStepOf : Machine → ℕ → ℕ → Outcome

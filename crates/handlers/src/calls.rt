@@ -1,7 +1,7 @@
 // The published events of the machine, an event of any kind, and the margin query. Each asks question 8 first.
 
 ghost use mathlib.Core.Path.{_≡_};
-ghost use Rattle.handlers.specs.Calls.{sampleOf, loadOf, storeOf, csrReadOf, csrWriteOf, takeOf, openOf, chainOf, returnOf, setMaskOf, clockOf, stepOf, marginAnswer};
+ghost use Rattle.handlers.specs.Calls.{sampleOf, loadOf, storeOf, csrReadOf, csrWriteOf, takeOf, openOf, chainOf, returnOf, setMaskOf, clockOf, errorOf, stepOf, marginAnswer};
 use crate::Machine;
 use crate::Margin;
 use crate::Outcome;
@@ -115,6 +115,16 @@ impl Machine {
             return self.refuse(8);
         }
         self.clock_event()
+    }
+
+    // One error in the counter that the address names, 0 to 2.
+    pub fn count_error(mut self, address: u32) -> Outcome
+        ensures { λ r. ⌜ r ≡ errorOf self address ⌝ }
+    {
+        if !self.is_sound() {
+            return self.refuse(8);
+        }
+        self.error_event(address)
     }
 
     // One event, a head and a value: the machine that it hands back, its answer and its refusal.

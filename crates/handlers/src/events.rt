@@ -1,8 +1,8 @@
-// The events of the controller and of the timers on the machine, and an event of any kind: what they do once question 8 is answered yes.
+// The events of the controller and of the counters on the machine, and an event of any kind: what they do once question 8 is answered yes.
 
 ghost use mathlib.Core.Path.{_≡_};
 ghost use Rattle.handlers.specs.Fields.{withController, withCounters};
-ghost use Rattle.handlers.specs.Service.{lifted, sampleEvent, loadEvent, storeEvent, csrReadEvent, controllerWrite, csrWriteEvent, clockEvent, soundStepOf};
+ghost use Rattle.handlers.specs.Service.{lifted, sampleEvent, loadEvent, storeEvent, csrReadEvent, controllerWrite, csrWriteEvent, clockEvent, errorEvent, soundStepOf};
 use crate::Machine;
 use crate::Outcome;
 use counters::Counters;
@@ -106,6 +106,18 @@ impl Machine {
         self.with_counters(next).accept(out.answer)
     }
 
+    pub(crate) fn error_event(self, address: u32) -> Outcome
+        ensures { λ r. ⌜ r ≡ errorEvent self address ⌝ }
+    {
+        if 2 < address {
+            return self.refuse(25);
+        }
+        let old = self.counters;
+        let out = old.count_error(address as u8);
+        let new = out.counters;
+        self.with_counters(new).accept(out.answer)
+    }
+
     // One event, a head and a value, on a machine that is known to be sound: 6 and 7, then the event by its kind.
     pub(crate) fn sound_step(self, head: u32, value: u32) -> Outcome
         ensures { λ r. ⌜ r ≡ soundStepOf self head value ⌝ }
@@ -127,6 +139,7 @@ impl Machine {
             8 => self.return_event(),
             9 => self.set_mask_event(value),
             10 => self.clock_event(),
+            11 => self.error_event(address),
             _ => self.refuse(6),
         }
     }

@@ -1,4 +1,4 @@
-// The machine: the interrupt controller with its mask, its stack of handlers and its timers, and the handler service.
+// The machine: the interrupt controller with its mask, its stack of handlers, its timers and its error counters, and the handler service.
 
 mod calls;
 mod checking;

@@ -11,12 +11,13 @@ use Rattle.event.specs.Event.{kindOf, addressOf, shapeOf}
 use Rattle.pic_registers.specs.Calls as registers
 use Rattle.pic_csrs.specs.Calls as csrs
 use Rattle.counters.specs.Timers as timers
+use Rattle.counters.specs.Errors as errors
 use Rattle.counters.specs.Csrs as counters
 use Rattle.handlers.specs.declared.Machine.{Machine}
 use Rattle.handlers.specs.declared.Outcome.{Outcome}
 use Rattle.handlers.specs.Fields.{withMask, withCounters}
 use Rattle.handlers.specs.Machines.{uppermost, isOpen, soundOf}
-use Rattle.handlers.specs.Service.{accepted, refused, ask, lifted, ofCounters, mayStore, mayWrite, controllerWrite, hasHandler, lookAt, taken, opened, serves, captured, chained, returned, sampleEvent, loadEvent, storeEvent, csrReadEvent, csrWriteEvent, takeEvent, openEvent, chainEvent, returnEvent, setMaskEvent, clockEvent, eventOf, soundStepOf}
+use Rattle.handlers.specs.Service.{accepted, refused, ask, lifted, ofCounters, mayStore, mayWrite, mayCount, controllerWrite, hasHandler, lookAt, taken, opened, serves, captured, chained, returned, sampleEvent, loadEvent, storeEvent, csrReadEvent, csrWriteEvent, takeEvent, openEvent, chainEvent, returnEvent, setMaskEvent, clockEvent, errorEvent, eventOf, soundStepOf}
 use Rattle.handlers.specs.Calls.{stepOf}
 
 -- The ways of an event of this address and value on the machine m, by its kind. A controller's own event may still be refused by the controller. A CSR is the
@@ -37,6 +38,7 @@ pub record Cases (m : Machine) (a v : ℕ) (P : ℕ → Outcome → Type 0) : Ty
   pub returns : hasHandler m ≡ true → P 8 (accepted (returned m) (m .depth - 1))
   pub masks : leb v 1 ≡ true → (eqb v 0 || isOpen m) ≡ true → P 9 (accepted (withMask m v) 0)
   pub clocks : P 10 (accepted (withCounters m (timers.clockOf (m .counters) .counters)) (timers.clockOf (m .counters) .answer))
+  pub errors : mayCount a ≡ true → P 11 (accepted (withCounters m (errors.errorOf (m .counters) a .counters)) (errors.errorOf (m .counters) a .answer))
 
 module _ (m : Machine) (a v : ℕ) (P : ℕ → Outcome → Type 0) (h : Cases m a v P) where
   -- A question of an event of kind k.
@@ -88,6 +90,10 @@ module _ (m : Machine) (a v : ℕ) (P : ℕ → Outcome → Type 0) (h : Cases m
   unfolding setMaskEvent
   mask-case = ask-case 9 (leb v 1) 20 _ (λ e. omega arith) (λ f. ask-case 9 (eqb v 0 || isOpen m) 21 _ (λ e. omega arith) (λ g. h .masks f g))
 
+  error-case : P 11 (errorEvent m a)
+  unfolding errorEvent
+  error-case = ask-case 11 (mayCount a) 25 _ (λ e. omega arith) (λ f. h .errors f)
+
   -- One kind, or the rest.
   choose : (k K : ℕ) (x y : Outcome) → P K x → P k y → P k (cond (eqb k K) x y)
   choose k K x y p q = go (eqb k K) refl
@@ -110,7 +116,8 @@ module _ (m : Machine) (a v : ℕ) (P : ℕ → Outcome → Type 0) (h : Cases m
       (choose k 8 _ _ return-case
       (choose k 9 _ _ mask-case
       (choose k 10 _ _ (h .clocks)
-      (h .refuses k 6 (λ e. omega arith))))))))))))
+      (choose k 11 _ _ error-case
+      (h .refuses k 6 (λ e. omega arith)))))))))))))
 
 -- What is shown of each way holds of every event.
 pub step-cases : (m : Machine) (head value : ℕ) (P : ℕ → Outcome → Type 0) → Cases m (addressOf head) value P → P (kindOf head) (stepOf m head value)

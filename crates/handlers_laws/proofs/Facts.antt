@@ -16,7 +16,7 @@ use Rattle.pic.specs.Sound as pic
 use Rattle.pic.specs.Calls.{sourceCount, currentRank}
 use Rattle.pic_laws.proofs.Captures.{look-found, margin-over}
 use Rattle.counters.specs.declared.Counters.{Counters}
-use Rattle.counters.specs.Timers as timers
+use Rattle.counters.specs.Whole as counters
 use Rattle.handlers_stack.specs.Stacks.{levelOf}
 use Rattle.handlers_stack.proofs.Stacks.{Fine, each, each-back, rank-high, level-opened}
 use Rattle.handlers.specs.declared.Machine.{Machine}
@@ -31,7 +31,7 @@ pub record Sound (m : Machine) : Type 0 where
   pub current : (m .depth ≡ 0) ⊎ (currentRank (m .controller) .0 ≡ levelOf (uppermost m) .0)
   pub masked : (m .mask ≡ 0) ⊎ ((m .depth ≡ 0) ⊎ (uppermost m .opened ≡ 1))
   pub controller : pic.soundOf (m .controller) ≡ true
-  pub counters : timers.soundOf (m .counters) ≡ true
+  pub counters : counters.soundOf (m .counters) ≡ true
 
 -- There is no handler, or the uppermost is opened.
 pub open-cases : (m : Machine) → isOpen m ≡ true → (m .depth ≡ 0) ⊎ (uppermost m .opened ≡ 1)
@@ -76,7 +76,7 @@ sound m f =
     (f .counters)
 
 -- Other sound counters.
-pub counters-sound : (m : Machine) (t : Counters) → soundOf m ≡ true → timers.soundOf t ≡ true → soundOf (withCounters m t) ≡ true
+pub counters-sound : (m : Machine) (t : Counters) → soundOf m ≡ true → counters.soundOf t ≡ true → soundOf (withCounters m t) ≡ true
 counters-sound m t e h =
     let f = facts m e in
     sound (withCounters m t)

@@ -18,9 +18,9 @@ use Rattle.pic.specs.Calls.{sourceCount, priorityOrder, currentRank, captureOf}
 use Rattle.pic_registers.specs.Calls as registers
 use Rattle.pic_csrs.specs.Calls as csrs
 use Rattle.counters.specs.declared.Counters.{Counters}
-use Rattle.counters.specs.Timers as timers
+use Rattle.counters.specs.Whole as whole
 use Rattle.counters.specs.Csrs as counters
-use Rattle.counters.proofs.Clocks.{reset-sound, clock-sound}
+use Rattle.counters.proofs.Soundness.{reset-sound, clock-sound, error-sound}
 use Rattle.counters.proofs.Writes.{written-sound}
 use Rattle.pic_source.proofs.Bools.{and-parts, or-cases, eq-cases}
 use Rattle.pic_laws.proofs.Kept.{sample-sound, sample-count, sample-current, store-sound, store-count, store-current, csr-write-sound, csr-write-count, csr-write-current, load-same, csr-read-same, capture-sound, capture-count, capture-current, current-sound, current-count, current-is, power-on-sound}
@@ -277,7 +277,7 @@ masked-ready m r v l e =
     (r .places)
 
 -- Other counters.
-with-counters : (m : Machine) (t : Counters) → Ready m → timers.soundOf t ≡ true → Ready (withCounters m t)
+with-counters : (m : Machine) (t : Counters) → Ready m → whole.soundOf t ≡ true → Ready (withCounters m t)
 with-counters m t r e = record { isSound = counters-sound m t (r .isSound) e; places = r .places }
 
 -- A store that does not switch priord: where it is to 0x3000, it stores the priord that is there.
@@ -286,7 +286,7 @@ kept-order m a v f e =
     let g : not (eqb (v % 2) (priorityOrder (m .controller))) ≡ false = rw (eq-eqb a 0x3000 e) at f in
     eqb-true _ _ (not-false _ g)
 
--- The controller's own events, and those of the timers.
+-- The controller's own events, and those of the counters.
 module _ (m : Machine) (r : Ready m) where
   is-sound-controller : pic.soundOf (m .controller) ≡ true
   is-sound-controller = facts m (r .isSound) .controller
@@ -330,6 +330,7 @@ module _ (m : Machine) (r : Ready m) where
         returns = λ f. returned-ready m r (ltb-true 0 (m .depth) f);
         masks = λ f g. masked-ready m r v f g;
         clocks = with-counters m _ r (clock-sound (m .counters) (facts m (r .isSound) .counters));
+        errors = λ f. let l = leb-true a 2 f in with-counters m _ r (error-sound (m .counters) a (omega (arith, l)) (facts m (r .isSound) .counters));
       })
 
 -- Power-on is sound, also with an N that it refuses.

@@ -52,5 +52,6 @@ latches-follow m head v e accepted s a b =
       returns = λ f z. quiet m e s a b (setCurrent c (uppermost m .saved)) (current-arrays c (uppermost m .saved));
       masks = λ f g z. quiet m e s a b c refl;
       clocks = λ z. quiet m e s a b c refl;
+      errors = λ f z. quiet m e s a b c refl;
     })
     accepted

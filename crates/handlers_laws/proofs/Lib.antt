@@ -7,5 +7,7 @@ pub mod Checks
 pub mod Latches
 pub mod Ranks
 pub mod Values
+pub mod Csrs
 pub mod Timers
+pub mod Errors
 pub mod Switches

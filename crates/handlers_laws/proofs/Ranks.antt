@@ -41,6 +41,7 @@ step-stays m head v s =
       returns = λ f. arrays-stay c s (setCurrent c (uppermost m .saved)) (current-arrays c (uppermost m .saved));
       masks = λ f g. arrays-stay c s c refl;
       clocks = arrays-stay c s c refl;
+      errors = λ f. arrays-stay c s c refl;
     })
 
 pub field-kept : (m : Machine) (head value s : ℕ) → (kindOf head ≡ 2 → addressOf head ≡ 4 * s → ⊥)

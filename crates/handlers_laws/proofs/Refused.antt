@@ -33,6 +33,7 @@ module _ (m : Machine) where
         returns = λ f d. absurd (d refl);
         masks = λ f g d. absurd (d refl);
         clocks = λ d. absurd (d refl);
+        errors = λ f d. absurd (d refl);
       })
 
   -- An unsound machine gets 8, and is handed back as it was.

@@ -115,4 +115,5 @@ current-kept m head v d =
       returns = λ f x y. absurd (y refl);
       masks = λ f g x y. refl;
       clocks = λ x y. refl;
+      errors = λ f x y. refl;
     })

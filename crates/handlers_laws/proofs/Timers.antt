@@ -1,180 +1,17 @@
--- The timers in the machine: question 12 over twelve addresses, power-on, a CSR after a write, and a clock.
-use Prim.Native.Nat.{ℕ, zero, suc, _+_, _-_, _<_}
-use mathlib.Core.Path.{_≡_, refl, sym, ap, _∙_}
-use mathlib.Core.Bool.{Bool, true, false, cond, not, _||_}
-use mathlib.Core.List.{List, [], _∷_, _++_}
-use mathlib.Core.Logic.{⊎-elim}
+-- The timers in the machine: power-on and a clock.
+use mathlib.Core.Path.{_≡_, refl}
 use native.Mathlib.Omega.{arith}
-use lib.Dec.{eqb}
-use borrow.Author.Tests.{eqb-true}
-use Rattle.pic_source.proofs.Bools.{never, or-cases}
-use Rattle.pic.specs.declared.Outcome as pic
-use Rattle.pic_csrs.specs.declared.Csr as controller
-use Rattle.pic_csrs.specs.declared.Csr.the-variants as c
-use Rattle.pic_csrs.specs.Addresses as csrs
-use Rattle.pic_csrs.specs.Calls as csr-calls
-use Rattle.pic_csrs.proofs.Addresses as csr-laws
-use Rattle.pic_laws.proofs.Csrs.{read-12, write-12, write-not-12}
-use Rattle.counters.specs.declared.Csr.{Csr}
-use Rattle.counters.specs.declared.Csr.the-variants.{Mitcnt, Mitb, Mitctl, NoCsr}
-use Rattle.counters.specs.Csrs.{csrAddress, isCsr, csrAt, csrValue, csrWritten}
 use Rattle.counters.proofs.Clocks.{reset-each, clocked-each, no-other-bits}
-use Rattle.counters.proofs.Addresses.{address-csr, in-the-row}
-use Rattle.counters.proofs.Writes.{written-each, written-sound}
-use Rattle.handlers.specs.declared.Machine.{Machine}
-use Rattle.handlers.specs.declared.Outcome.{Outcome}
 use Rattle.handlers.specs.Fields.{withCounters}
-use Rattle.handlers.specs.Machines.{powerOnOf, soundOf}
-use Rattle.handlers.specs.Service.{accepted, refused, lifted, ofCounters, mayWrite, csrReadEvent, controllerWrite, csrWriteEvent, clockEvent}
-use Rattle.handlers.specs.Calls.{csrReadOf, csrWriteOf, clockOf}
-use Rattle.handlers.specs.Timers.{csrsOf01, csrsOfTimers, isOneOf, isOneOfTwelve, Question12, PowerOnResets, TimersWritten, TimersClocked, ClocksAlone}
+use Rattle.handlers.specs.Machines.{powerOnOf}
+use Rattle.handlers.specs.Service.{clockEvent}
+use Rattle.handlers.specs.Calls.{clockOf}
+use Rattle.handlers.specs.Timers.{PowerOnResets, TimersClocked, ClocksAlone}
 use Rattle.handlers_laws.proofs.Cases.{step-cases}
-use Rattle.handlers_laws.proofs.Facts.{facts, counters-sound}
-
--- What holds of each of a list holds of one of them.
-abbrev Each : (ℕ → Type 0) → List ℕ → Type 0
-Each P [] = Unit {0}
-Each P (b ∷ bs) = P b × Each P bs
-
-each-of : (P : ℕ → Type 0) (l : List ℕ) → Each P l → (a : ℕ) → isOneOf a l ≡ true → P a
-each-of P [] h a e = never e
-each-of P (b ∷ bs) h a e = ⊎-elim (λ f. rw (eqb-true a b f) (h .0)) (λ f. each-of P bs (h .1) a f) (or-cases (eqb a b) (isOneOf a bs) e)
-
-one-of-both : (a : ℕ) (l k : List ℕ) → isOneOf a (l ++ k) ≡ (isOneOf a l || isOneOf a k)
-one-of-both a [] k = refl
-one-of-both a (b ∷ bs) k = go (eqb a b) (one-of-both a bs k)
-  where
-    go : (t : Bool) → isOneOf a (bs ++ k) ≡ (isOneOf a bs || isOneOf a k) → (t || isOneOf a (bs ++ k)) ≡ ((t || isOneOf a bs) || isOneOf a k)
-    go true h = refl
-    go false h = h
-
--- Two tests are alike where each gives the other.
-alike : (s t : Bool) → (s ≡ true → t ≡ true) → (t ≡ true → s ≡ true) → s ≡ t
-alike true t f g = sym (f refl)
-alike false true f g = g refl
-alike false false f g = refl
-
--- The six of 01 are those that the controller has.
-not-none : (r : controller.Csr) → csrs.isCsr r ≡ true → r ≡ c.NoCsr → ⊥
-not-none r e f = never (sym (ap csrs.isCsr f) ∙ e)
-
-known : (r : controller.Csr) → csrs.isCsr r ≡ true → csrs.isCsr (csrs.csrAt (csrs.csrAddress r)) ≡ true
-known r e = rw (csr-laws.address-csr r (not-none r e)) e
-
-of-01 : (a : ℕ) → isOneOf a csrsOf01 ≡ csrs.isCsr (csrs.csrAt a)
-of-01 a =
-    alike (isOneOf a csrsOf01) (csrs.isCsr (csrs.csrAt a))
-    (each-of (λ b. csrs.isCsr (csrs.csrAt b) ≡ true) csrsOf01
-    (known c.Meivt refl, (known c.Meipt refl, (known c.Meicpct refl, (known c.Meicidpl refl, (known c.Meicurpl refl, (known c.Meihap refl, tt)))))) a)
-    (λ e. go (csrs.csrAt a) refl e)
-  where
-    at : (r : controller.Csr) → csrs.isCsr r ≡ true → csrs.csrAt a ≡ r → isOneOf (csrs.csrAddress r) csrsOf01 ≡ true → isOneOf a csrsOf01 ≡ true
-    at r i h t = rw (csr-laws.csr-address a r (not-none r i) h) t
-
-    go : (r : controller.Csr) → csrs.csrAt a ≡ r → csrs.isCsr r ≡ true → isOneOf a csrsOf01 ≡ true
-    go c.Meivt h e = at c.Meivt e h refl
-    go c.Meipt h e = at c.Meipt e h refl
-    go c.Meicpct h e = at c.Meicpct e h refl
-    go c.Meicidpl h e = at c.Meicidpl e h refl
-    go c.Meicurpl h e = at c.Meicurpl e h refl
-    go c.Meihap h e = at c.Meihap e h refl
-    go c.NoCsr h e = never e
-
--- The six of the timers are those that they have.
-timed : (r : Csr) → isCsr r ≡ true → isCsr (csrAt (csrAddress r)) ≡ true
-timed r e = rw (address-csr r e) e
-
-of-timers : (a : ℕ) → isOneOf a csrsOfTimers ≡ ofCounters a
-of-timers a =
-    alike (isOneOf a csrsOfTimers) (ofCounters a)
-    (each-of (λ b. ofCounters b ≡ true) csrsOfTimers
-    (timed (Mitcnt 0) refl, (timed (Mitb 0) refl, (timed (Mitctl 0) refl, (timed (Mitcnt 1) refl, (timed (Mitb 1) refl, (timed (Mitctl 1) refl, tt)))))) a)
-    (λ e. let l = in-the-row a e in let s : a ≡ 0x7D2 + (a - 0x7D2) = omega (arith, l .0) in rw s (row (a - 0x7D2) (omega (arith, l .1))))
-  where
-    row : (k : ℕ) → k < 6 → isOneOf (0x7D2 + k) csrsOfTimers ≡ true
-    row zero h = refl
-    row (suc zero) h = refl
-    row (suc (suc zero)) h = refl
-    row (suc (suc (suc zero))) h = refl
-    row (suc (suc (suc (suc zero)))) h = refl
-    row (suc (suc (suc (suc (suc zero))))) h = refl
-    row (suc (suc (suc (suc (suc (suc k)))))) h = absurd (omega arith)
-
-twelve : (a : ℕ) → isOneOfTwelve a ≡ (csrs.isCsr (csrs.csrAt a) || ofCounters a)
-twelve a = one-of-both a csrsOf01 csrsOfTimers ∙ rw (of-01 a, of-timers a)
-
-module _ (m : Machine) (e : soundOf m ≡ true) where
-  read-refusal : (a : ℕ) → csrReadOf m a .refusal ≡ cond (isOneOfTwelve a) 0 12
-  unfolding csrReadOf csrReadEvent
-  read-refusal a =
-      rw (e, twelve a) (go (ofCounters a) (csrs.isCsr (csrs.csrAt a)) (csrValue (m .counters) (csrAt a)) (csr-calls.csrReadOf (m .controller) a) (read-12 (m .controller) a 0))
-    where
-      go : (s t : Bool) (x : ℕ) (o : pic.Outcome) → o .refusal ≡ cond t 0 12 → cond s (accepted m x) (lifted m o) .refusal ≡ cond (t || s) 0 12
-      go true true x o h = refl
-      go true false x o h = refl
-      go false true x o h = h
-      go false false x o h = h
-
-  -- 0xBCC is one of the six.
-  may-write : (a : ℕ) → csrs.isCsr (csrs.csrAt a) ≡ false → mayWrite m a ≡ true
-  may-write a h = go (eqb a 0xBCC) refl
-    where
-      go : (t : Bool) → eqb a 0xBCC ≡ t → (not t || eqb (m .depth) 0) ≡ true
-      go true f = never (sym h ∙ rw (eqb-true a 0xBCC f) (known c.Meicurpl refl))
-      go false f = refl
-
-  write-refused : (a v : ℕ) → csrs.isCsr (csrs.csrAt a) ≡ false → ofCounters a ≡ false → csrWriteOf m a v ≡ refused m 12
-  unfolding csrWriteOf csrWriteEvent controllerWrite
-  write-refused a v h k = rw (e, k, may-write a h, write-12 (m .controller) a v h)
-
-  write-known : (a v : ℕ) → (csrs.isCsr (csrs.csrAt a) || ofCounters a) ≡ true → csrWriteOf m a v .refusal ≡ 12 → ⊥
-  unfolding csrWriteOf csrWriteEvent controllerWrite
-  write-known a v k = rw e (go (ofCounters a) refl (mayWrite m a))
-    where
-      go : (s : Bool) → ofCounters a ≡ s → (t : Bool)
-          → cond s (accepted (withCounters m (csrWritten (m .counters) (csrAt a) v)) 0)
-          (cond t (lifted m (csr-calls.csrWriteOf (m .controller) a v)) (refused m 14)) .refusal ≡ 12 → ⊥
-      go true h t z = omega (arith, z)
-      go false h false z = omega (arith, z)
-      go false h true z = ⊎-elim (λ i. write-not-12 (m .controller) a v i z) (λ i. never (sym h ∙ i)) (or-cases (csrs.isCsr (csrs.csrAt a)) (ofCounters a) k)
-
--- Neither of two tests holds.
-neither : (s t : Bool) → (s || t) ≡ false → (s ≡ false) × (t ≡ false)
-neither true t e = never (sym e)
-neither false t e = (refl, e)
-
-pub question-12 : Question12
-question-12 m a v e =
-    record {
-      reads = read-refusal m e a;
-      refuses = λ h. let n = neither (csrs.isCsr (csrs.csrAt a)) (ofCounters a) (sym (twelve a) ∙ h) in write-refused m e a v (n .0) (n .1);
-      goes-on = λ h. write-known m e a v (sym (twelve a) ∙ h);
-    }
 
 pub power-on-resets : PowerOnResets
 unfolding powerOnOf
 power-on-resets n i = reset-each i
-
--- A read and a write of a timer's CSR.
-module _ (m : Machine) (e : soundOf m ≡ true) (r : Csr) (h : isCsr r ≡ true) where
-  timer-read : csrReadOf m (csrAddress r) ≡ accepted m (csrValue (m .counters) r)
-  unfolding csrReadOf csrReadEvent
-  timer-read = rw (e, address-csr r h, h)
-
-  timer-write : (v : ℕ) → csrWriteOf m (csrAddress r) v ≡ accepted (withCounters m (csrWritten (m .counters) r v)) 0
-  unfolding csrWriteOf csrWriteEvent
-  timer-write v = rw (e, address-csr r h, h)
-
-pub timers-written : TimersWritten
-timers-written m e r v h b =
-    let t = csrWritten (m .counters) r v in
-    let s = counters-sound m t e (written-sound (m .counters) r v h b (facts m e .counters)) in
-    let w = written-each (m .counters) r v h in
-    record {
-      accepts = ap (λ (o : Outcome). o .refusal) (timer-write m e r h v);
-      itself = rw (timer-write m e r h v, timer-read (withCounters m t) s r h) (w .itself);
-      others = λ q i d. rw (timer-write m e r h v, timer-read (withCounters m t) s q i, timer-read m e q i) (w .others q i d);
-    }
 
 pub timers-clocked : TimersClocked
 unfolding clockOf clockEvent
@@ -199,4 +36,5 @@ clocks-alone m head value =
       returns = λ f z. absurd (omega arith);
       masks = λ f g z. absurd (omega arith);
       clocks = λ z. refl;
+      errors = λ f z. refl;
     })

@@ -14,7 +14,7 @@ recordRows =
     ∷ (3, "more than 4,000 events")
     ∷ (4, "the length is not 8 + 8 x n, or heads and values are not equally many")
     ∷ (5, "the arrays or bytes lent do not hold it all")
-    ∷ (6, "the kind is not 0 to 10")
+    ∷ (6, "the kind is not 0 to 11")
     ∷ (7, "an address or a value that the kind does not use is not 0")
     ∷ (8, "the machine handed in is not sound")
     ∷ (22, "N is above 63, the compact player's most")
@@ -27,7 +27,7 @@ eventRows =
     (9, "the word number is above 7")
     ∷ (10, "the offset is 0x8000 or more")
     ∷ (11, "the offset is not a multiple of 4")
-    ∷ (12, "the address is none of the twelve CSRs")
+    ∷ (12, "the address is none of the fifteen CSRs")
     ∷ (13, "meihap cannot be written")
     ∷ (14, "meicurpl is written while a handler is open")
     ∷ (15, "interrupts are off")
@@ -38,6 +38,7 @@ eventRows =
     ∷ (20, "the value is not 0 or 1")
     ∷ (21, "interrupts on, while the uppermost handler is not opened")
     ∷ (24, "priord is switched while a handler is open")
+    ∷ (25, "the error counter's number is above 2")
     ∷ []
 
 -- The words of the first row with this number; none where no row has it.

@@ -17,7 +17,7 @@ fn put_event_words(buffer: &mut [u8], at: usize, refusal: u8) -> usize
         9 => put_text(buffer, at, b"the word number is above 7"),
         10 => put_text(buffer, at, b"the offset is 0x8000 or more"),
         11 => put_text(buffer, at, b"the offset is not a multiple of 4"),
-        12 => put_text(buffer, at, b"the address is none of the twelve CSRs"),
+        12 => put_text(buffer, at, b"the address is none of the fifteen CSRs"),
         13 => put_text(buffer, at, b"meihap cannot be written"),
         14 => put_text(buffer, at, b"meicurpl is written while a handler is open"),
         15 => put_text(buffer, at, b"interrupts are off"),
@@ -36,6 +36,7 @@ fn put_event_words(buffer: &mut [u8], at: usize, refusal: u8) -> usize
             b"interrupts on, while the uppermost handler is not opened",
         ),
         24 => put_text(buffer, at, b"priord is switched while a handler is open"),
+        25 => put_text(buffer, at, b"the error counter's number is above 2"),
         _ => put_text(buffer, at, b""),
     }
 }
@@ -55,7 +56,7 @@ pub fn put_words(buffer: &mut [u8], at: usize, refusal: u8) -> usize
             b"the length is not 8 + 8 x n, or heads and values are not equally many",
         ),
         5 => put_text(buffer, at, b"the arrays or bytes lent do not hold it all"),
-        6 => put_text(buffer, at, b"the kind is not 0 to 10"),
+        6 => put_text(buffer, at, b"the kind is not 0 to 11"),
         7 => put_text(
             buffer,
             at,

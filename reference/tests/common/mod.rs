@@ -3,7 +3,7 @@
 #![allow(dead_code)]
 
 use reference::event::*;
-use reference::machine::{Machine, Outcome};
+use reference::machine::*;
 
 pub const ACCEPTED: Outcome = Outcome {
     answer: 0,
@@ -22,6 +22,40 @@ pub fn answer(answer: u32) -> Outcome {
 
 pub fn refused(refusal: u32) -> Outcome {
     Outcome { answer: 0, refusal }
+}
+
+/// A handler of source 1, rank 3, opened, and within it one of source 2, rank 7, not opened.
+pub fn nested() -> Machine {
+    let mut machine = machine(4);
+    machine.prepare(1, 3);
+    machine.prepare(2, 7);
+    machine.set_mask(1);
+    machine.sample(0, 0b010);
+    assert_eq!(machine.take(), answer(4));
+    assert_eq!(machine.open(), answer(3));
+    machine.sample(0, 0b110);
+    assert_eq!(machine.take(), answer(8));
+    machine
+}
+
+/// The same with an edge latch, a level latch, a claim and a threshold to keep.
+pub fn much_to_keep() -> Machine {
+    let mut machine = nested();
+    machine.store(0x400C, 2);
+    machine.sample(0, 0b1_1110);
+    machine.sample(0, 0b0_0110);
+    machine.csr_write(MEIPT, 2);
+    machine.csr_write(MEICPCT, 0);
+    // The claim stays source 2, though source 1 would win now.
+    machine.store(4, 12);
+    machine
+}
+
+/// Pending bits, claim and handlers are still those of `much_to_keep`.
+pub fn kept(machine: &mut Machine) {
+    assert_eq!(machine.load(0x1000), answer(0b1110));
+    assert_eq!(machine.csr_read(MEIHAP), answer(8));
+    assert_eq!(machine.handlers.len(), 2);
 }
 
 pub trait Play {
@@ -59,6 +93,9 @@ pub trait Play {
     }
     fn clock(&mut self) -> Outcome {
         self.act(CLOCK, 0, 0)
+    }
+    fn error(&mut self, counter: u32) -> Outcome {
+        self.act(ERROR, counter, 0)
     }
 
     /// Ranks and enables a source.

@@ -95,6 +95,12 @@ slice-aggregate-put-text-15 c = search needs
 put-text-requires-15 : tie.Need-put-text-requires-15
 put-text-requires-15 c κs = search needs
 
+slice-aggregate-put-text-16 : tie.Need-slice-aggregate-put-text-16
+slice-aggregate-put-text-16 c = search needs
+
+put-text-requires-16 : tie.Need-put-text-requires-16
+put-text-requires-16 c κs = search needs
+
 same-length : tie.Need-same-length
 same-length c = search needs
 
@@ -197,8 +203,15 @@ same-length-15 : tie.Need-same-length-15
 same-length-15 c = search needs
 
 returns-15 : tie.Need-returns-15
+unfolding eventRows wordsIn ascii
+returns-15 c = rw (c .before .before .before .before .before .match .keys15) (c .before .before .put-text15 .ensures)
+
+same-length-16 : tie.Need-same-length-16
+same-length-16 c = search needs
+
+returns-16 : tie.Need-returns-16
 unfolding eventRows
-returns-15 c = rw (none-in (c .before .before .before .before .before .before .before .args .refusal) _ eventRows (c .before .before .before .before .before .match .rest)) (c .before .before .put-text15 .ensures)
+returns-16 c = rw (none-in (c .before .before .before .before .before .before .before .args .refusal) _ eventRows (c .before .before .before .before .before .match .rest)) (c .before .before .put-text16 .ensures)
 
 pub put-event-words-spec : {M : Type 1} → statement M
 put-event-words-spec =
@@ -234,6 +247,8 @@ put-event-words-spec =
     put-text-requires-14
     slice-aggregate-put-text-15
     put-text-requires-15
+    slice-aggregate-put-text-16
+    put-text-requires-16
     same-length
     returns
     same-length-2
@@ -263,4 +278,6 @@ put-event-words-spec =
     same-length-14
     returns-14
     same-length-15
-    returns-15)
+    returns-15
+    same-length-16
+    returns-16)

@@ -21,6 +21,12 @@ enum-known-csr-3 c = search needs
 timer-requires-3 : tie.Need-timer-requires-3
 timer-requires-3 c κs = search needs
 
+enum-known-csr-4 : tie.Need-enum-known-csr-4
+enum-known-csr-4 c = search needs
+
+counter-requires : tie.Need-counter-requires
+counter-requires c κs = search needs
+
 enum-told : tie.Need-enum-told
 enum-told c = search needs
 
@@ -38,7 +44,11 @@ returns-3 c = rw (c .before .before .csr3 .given .1, c .timer3 .ensures)
 
 returns-4 : tie.Need-returns-4
 unfolding csrValue
-returns-4 c = rw (c .enum-told .given .1)
+returns-4 c = rw (c .before .before .csr4 .given .1, c .counter .ensures)
+
+returns-5 : tie.Need-returns-5
+unfolding csrValue
+returns-5 c = rw (c .enum-told .given .1)
 
 pub csr-value-spec : {M : Type 1} → statement M
 csr-value-spec =
@@ -50,8 +60,11 @@ csr-value-spec =
     timer-requires-2
     enum-known-csr-3
     timer-requires-3
+    enum-known-csr-4
+    counter-requires
     enum-told
     returns
     returns-2
     returns-3
-    returns-4)
+    returns-4
+    returns-5)

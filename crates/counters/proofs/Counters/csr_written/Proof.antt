@@ -30,6 +30,15 @@ timer-requires-3 c κs = search needs
 with-timer-requires-3 : tie.Need-with-timer-requires-3
 with-timer-requires-3 c κs = search needs
 
+enum-known-csr-4 : tie.Need-enum-known-csr-4
+enum-known-csr-4 c = search needs
+
+held-requires : tie.Need-held-requires
+held-requires c κs = search needs
+
+with-counter-requires : tie.Need-with-counter-requires
+with-counter-requires c κs = search needs
+
 enum-told : tie.Need-enum-told
 enum-told c = search needs
 
@@ -47,7 +56,11 @@ returns-3 c = rw (c .before .before .before .csr3 .given .1, ← c .before .time
 
 returns-4 : tie.Need-returns-4
 unfolding csrWritten
-returns-4 c = rw (c .enum-told .given .1)
+returns-4 c = rw (c .before .before .before .before .csr4 .given .1, ← c .before .held .ensures, c .with-counter .ensures)
+
+returns-5 : tie.Need-returns-5
+unfolding csrWritten
+returns-5 c = rw (c .enum-told .given .1)
 
 pub csr-written-spec : {M : Type 1} → statement M
 csr-written-spec =
@@ -62,8 +75,12 @@ csr-written-spec =
     enum-known-csr-3
     timer-requires-3
     with-timer-requires-3
+    enum-known-csr-4
+    held-requires
+    with-counter-requires
     enum-told
     returns
     returns-2
     returns-3
-    returns-4)
+    returns-4
+    returns-5)

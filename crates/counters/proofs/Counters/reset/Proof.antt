@@ -1,5 +1,5 @@
 use mathlib.Core.Path.{refl}
-use Rattle.counters.specs.Timers.{resetCounters}
+use Rattle.counters.specs.Whole.{resetCounters}
 use Rattle.counters.proofs.Counters.reset.Statement.{statement}
 use Rattle.counters.proofs.Counters.reset.Tie as tie
 

@@ -11,6 +11,9 @@ enum-known-csr-2 c = search needs
 enum-known-csr-3 : tie.Need-enum-known-csr-3
 enum-known-csr-3 c = search needs
 
+enum-known-csr-4 : tie.Need-enum-known-csr-4
+enum-known-csr-4 c = search needs
+
 enum-told : tie.Need-enum-told
 enum-told c = search needs
 
@@ -24,7 +27,10 @@ returns-3 : tie.Need-returns-3
 returns-3 c = rw (c .before .csr3 .given .1)
 
 returns-4 : tie.Need-returns-4
-returns-4 c = rw (c .enum-told .given .1)
+returns-4 c = rw (c .before .csr4 .given .1)
+
+returns-5 : tie.Need-returns-5
+returns-5 c = rw (c .enum-told .given .1)
 
 pub is-csr-spec : {M : Type 1} → statement M
 is-csr-spec =
@@ -33,8 +39,10 @@ is-csr-spec =
     enum-known-csr
     enum-known-csr-2
     enum-known-csr-3
+    enum-known-csr-4
     enum-told
     returns
     returns-2
     returns-3
-    returns-4)
+    returns-4
+    returns-5)

@@ -53,6 +53,9 @@ set-mask-event-requires c κs = search needs
 clock-event-requires : tie.Need-clock-event-requires
 clock-event-requires c κs = search needs
 
+error-event-requires : tie.Need-error-event-requires
+error-event-requires c κs = search needs
+
 refuse-requires-2 : tie.Need-refuse-requires-2
 refuse-requires-2 c κs = search needs
 
@@ -102,9 +105,13 @@ returns-12 c = rw (← c .before .before .before .before .before .shape .ensures
 
 returns-13 : tie.Need-returns-13
 unfolding soundStepOf eventOf
-returns-13 c =
+returns-13 c = rw (← c .before .before .before .before .before .shape .ensures, eq-eqb _ _ (c .before .before .before .before .if1 .left), ← c .before .before .kind .ensures, c .before .match .keys12, ← c .before .before .before .address .ensures) (c .error-event .ensures)
+
+returns-14 : tie.Need-returns-14
+unfolding soundStepOf eventOf
+returns-14 c =
     let r = c .before .match .rest in
-    rw (← c .before .before .before .before .before .shape .ensures, eq-eqb _ _ (c .before .before .before .before .if1 .left), ← c .before .before .kind .ensures, ne-eqb _ _ (r .0 .0 .0 .0 .0 .0 .0 .0 .0 .0 .1), ne-eqb _ _ (r .0 .0 .0 .0 .0 .0 .0 .0 .0 .1), ne-eqb _ _ (r .0 .0 .0 .0 .0 .0 .0 .0 .1), ne-eqb _ _ (r .0 .0 .0 .0 .0 .0 .0 .1), ne-eqb _ _ (r .0 .0 .0 .0 .0 .0 .1), ne-eqb _ _ (r .0 .0 .0 .0 .0 .1), ne-eqb _ _ (r .0 .0 .0 .0 .1), ne-eqb _ _ (r .0 .0 .0 .1), ne-eqb _ _ (r .0 .0 .1), ne-eqb _ _ (r .0 .1), ne-eqb _ _ (r .1)) (c .refuse2 .ensures)
+    rw (← c .before .before .before .before .before .shape .ensures, eq-eqb _ _ (c .before .before .before .before .if1 .left), ← c .before .before .kind .ensures, ne-eqb _ _ (r .0 .0 .0 .0 .0 .0 .0 .0 .0 .0 .0 .1), ne-eqb _ _ (r .0 .0 .0 .0 .0 .0 .0 .0 .0 .0 .1), ne-eqb _ _ (r .0 .0 .0 .0 .0 .0 .0 .0 .0 .1), ne-eqb _ _ (r .0 .0 .0 .0 .0 .0 .0 .0 .1), ne-eqb _ _ (r .0 .0 .0 .0 .0 .0 .0 .1), ne-eqb _ _ (r .0 .0 .0 .0 .0 .0 .1), ne-eqb _ _ (r .0 .0 .0 .0 .0 .1), ne-eqb _ _ (r .0 .0 .0 .0 .1), ne-eqb _ _ (r .0 .0 .0 .1), ne-eqb _ _ (r .0 .0 .1), ne-eqb _ _ (r .0 .1), ne-eqb _ _ (r .1)) (c .refuse2 .ensures)
 
 pub sound-step-spec : {M : Type 1} → statement M
 sound-step-spec =
@@ -126,6 +133,7 @@ sound-step-spec =
     return-event-requires
     set-mask-event-requires
     clock-event-requires
+    error-event-requires
     refuse-requires-2
     returns-2
     returns-3
@@ -138,4 +146,5 @@ sound-step-spec =
     returns-10
     returns-11
     returns-12
-    returns-13)
+    returns-13
+    returns-14)

@@ -1,0 +1,69 @@
+-- The error counters in the machine: power-on, the questions of an event of kind 11, and an error.
+use Prim.Native.Nat.{ℕ, _<_}
+use mathlib.Core.Path.{_≡_, refl}
+use mathlib.Core.Bool.{Bool, true, false, cond}
+use native.Mathlib.Omega.{arith}
+use lib.Dec.{eqb}
+use borrow.Author.Tests.{leb-true, le-leb, lt-leb}
+use Rattle.event.specs.Event.{addressOf}
+use Rattle.event.proofs.Laws.{error-shape}
+use Rattle.counters.proofs.Counts.{reset-errors, error-again, counted-each}
+use Rattle.handlers.specs.declared.Machine.{Machine}
+use Rattle.handlers.specs.Machines.{powerOnOf, soundOf}
+use Rattle.handlers.specs.Service.{accepted, ask, mayCount, errorEvent, eventOf, soundStepOf}
+use Rattle.handlers.specs.Calls.{errorOf, stepOf}
+use Rattle.handlers.specs.Errors.{counterIn, withCounter, PowerOnNoErrors, ErrorQuestions, ErrorCounted, ErrorsCounted, ErrorsAlone}
+use Rattle.handlers_laws.proofs.Cases.{step-cases}
+
+pub power-on-no-errors : PowerOnNoErrors
+unfolding powerOnOf
+power-on-no-errors n i = reset-errors i
+
+pub error-questions : ErrorQuestions
+unfolding stepOf soundStepOf eventOf errorEvent
+error-questions m head value e k = rw (e, error-shape head value k, k) (go _ _ (eqb value 0) (mayCount (addressOf head)))
+  where
+    go : (n : Machine) (x : ℕ) (seven may : Bool)
+        → ask m (eqb (cond seven 0 7) 0) (cond seven 0 7) (ask m may 25 (accepted n x)) .refusal ≡ cond seven (cond may 0 25) 7
+    go n x true true = refl
+    go n x true false = refl
+    go n x false may = refl
+
+-- Counter i is counted.
+counted : (m : Machine) → soundOf m ≡ true → (i : ℕ) → i < 3 → ErrorCounted m i
+unfolding errorOf errorEvent
+counted m e i h =
+    let k = counted-each (m .counters) i h in
+    let t = le-leb i 2 (omega (arith, h)) in
+    record {
+      accepts = rw (e, t, k .alone, k .bit);
+      counter = rw (e, t) (k .counter);
+      others = λ j l d. rw (e, t) (k .others j l d);
+    }
+
+pub errors-counted : ErrorsCounted
+unfolding errorOf errorEvent
+errors-counted m e = record { counts = counted m e; refuses = λ a h. rw (e, lt-leb a 2 h) }
+
+pub errors-alone : ErrorsAlone
+errors-alone m head value =
+    let a = addressOf head in
+    step-cases m head value (λ k o. k ≡ 11 → o .machine ≡ withCounter m a (counterIn (o .machine) a))
+    (record {
+      refuses = λ k q n z. rw (error-again (m .counters .errors) a);
+      samples = λ z. absurd (omega arith);
+      loads = λ z. absurd (omega arith);
+      stores = λ f z. absurd (omega arith);
+      reads = λ z. absurd (omega arith);
+      counter-reads = λ f z. absurd (omega arith);
+      writes = λ f z. absurd (omega arith);
+      counter-writes = λ f z. absurd (omega arith);
+      takes = λ f g z. absurd (omega arith);
+      opens = λ f z. absurd (omega arith);
+      chains = λ f g z. absurd (omega arith);
+      passes = λ z. absurd (omega arith);
+      returns = λ f z. absurd (omega arith);
+      masks = λ f g z. absurd (omega arith);
+      clocks = λ z. absurd (omega arith);
+      errors = λ f z. let l = leb-true a 2 f in let k = counted-each (m .counters) a (omega (arith, l)) in rw (k .counter, k .alone);
+    })
