@@ -178,6 +178,7 @@ points =
       fields-print = refl;
       errors-reset = (refl, refl);
       errors-each = (refl, refl);
+      errors-and-clocks = (refl, refl);
       errors-held = refl;
       errors-written = (refl, refl);
       errors-again = (refl, refl);

@@ -722,6 +722,8 @@ pub record Points : Type 0 where
   -- answer is bit 0 of the count afterwards.
   pub errors-reset : Plays 4 (ects 0 0 0 ++ (csrRead 0x7EF refused 12 ∷ csrWrite 0x7EF 0 refused 12 ∷ csrRead 0x7F3 refused 12 ∷ csrWrite 0x7F3 0 refused 12 ∷ []))
   pub errors-each : Plays 4 (error 0 answers 1 ∷ error 1 answers 1 ∷ error 2 answers 1 ∷ error 1 answers 0 ∷ ects 1 2 1)
+  -- Errors and clocks count apart.
+  pub errors-and-clocks : Plays 4 (error 0 answers 1 ∷ clock ∷ error 2 answers 1 ∷ clock ∷ ects 1 0 1 ++ counts 2 2)
   -- "A written threshold of 27 to 31 is held as 26"; the others are kept, and all bits of the count are.
   pub errors-held : heldColumn 32 ≡ registers 27 ++ (register 26 5 ∷ register 26 5 ∷ register 26 5 ∷ register 26 5 ∷ register 26 5 ∷ [])
   pub errors-written :

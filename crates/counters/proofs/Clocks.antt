@@ -10,7 +10,7 @@ use Rattle.counters.specs.declared.Timer.{Timer}
 use Rattle.counters.specs.declared.Counters.{Counters}
 use Rattle.counters.specs.Timers.{timerAt, withTimer, timerTests, timerSound, signals, isEnabled, nextCount, signalBit, clockOf}
 use Rattle.counters.specs.Whole.{resetCounters}
-use Rattle.counters.specs.Each.{ResetEach, ClockedEach, NoOtherBits}
+use Rattle.counters.specs.Each.{ResetEach, ClockedEach, ClockKeepsErrors, NoOtherBits}
 use Rattle.counters.proofs.Testing.{signal-small}
 
 pub reset-each : ResetEach
@@ -31,6 +31,10 @@ clocked-each c zero h = record { timer = refl; bit = low-bit (signalBit (c .time
 clocked-each c (suc zero) h =
     record { timer = refl; bit = high-bit (signalBit (c .timer0)) (signalBit (c .timer1)) (signal-small (c .timer0) refl) (signal-small (c .timer1) refl) }
 clocked-each c (suc (suc i)) h = absurd (omega arith)
+
+pub clock-keeps-errors : ClockKeepsErrors
+unfolding clockOf
+clock-keeps-errors c = refl
 
 pub no-other-bits : NoOtherBits
 unfolding clockOf

@@ -11,7 +11,7 @@ use Rattle.counters.specs.Timers.{timerAt, timerSound, clockOf}
 use Rattle.counters.specs.Errors.{thresholdIn, errorSound, errorsSound, errorAt, withError, withErrors, errorOf, afterError}
 use Rattle.counters.specs.Whole.{resetCounters, soundOf}
 use Rattle.counters.proofs.Testing.{ThreeHold, three-hold}
-use Rattle.counters.proofs.Clocks.{clocked-each, Sound, timer-facts, timer-sound, next-fits}
+use Rattle.counters.proofs.Clocks.{clocked-each, clock-keeps-errors, Sound, timer-facts, timer-sound, next-fits}
 use Rattle.counters.proofs.Counts.{counts-each, error-put, error-other, timers-stay, errors-facts, errors-sound}
 
 pub record AllSound (c : Counters) : Type 0 where
@@ -38,7 +38,6 @@ unfolding soundOf timerSound errorsSound errorSound resetCounters
 reset-sound = refl
 
 pub clock-sound : (c : Counters) → soundOf c ≡ true → soundOf (clockOf c .counters) ≡ true
-unfolding clockOf
 clock-sound c e =
     let a = facts c e in
     sound (clockOf c .counters)
@@ -47,7 +46,7 @@ clock-sound c e =
           λ i h.
           let f = a .timer i h in
           rw (clocked-each c i h .timer) (record { count = next-fits (timerAt c i) f; bound = f .bound; control = f .control });
-      error = a .error;
+      error = rw (clock-keeps-errors c) (a .error);
     })
 
 -- An error counter in its range put for counter i.

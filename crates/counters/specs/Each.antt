@@ -22,6 +22,10 @@ pub record ClockedOne (c : Counters) (i : ℕ) : Type 0 where
 abbrev pub ClockedEach : Type 0
 ClockedEach = (c : Counters) (i : ℕ) → i < 2 → ClockedOne c i
 
+-- It changes no error counter (document 02, No. 5).
+abbrev pub ClockKeepsErrors : Type 0
+ClockKeepsErrors = (c : Counters) → clockOf c .counters .errors ≡ c .errors
+
 -- The answer has no other bits.
 abbrev pub NoOtherBits : Type 0
 NoOtherBits = (c : Counters) → clockOf c .answer < 2 ^ 2

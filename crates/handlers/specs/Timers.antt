@@ -24,8 +24,11 @@ pub record TimerClocked (m : Machine) (i : ℕ) : Type 0 where
 abbrev pub TimersClocked : Type 0
 TimersClocked = (m : Machine) → soundOf m ≡ true → (i : ℕ) → i < 2 → TimerClocked m i
 
--- "A clock opens no handler": an event of kind 10, refused or not, changes nothing but the timers. Controller, mask and stack are as before, so claim, pending and
--- handlers are too.
+-- "A clock opens no handler": an event of kind 10, refused or not, changes nothing but the timers. Controller, mask, stack and error counters are as before, so claim,
+-- pending and handlers are too.
+pub record TimersAlone (before after : Machine) : Type 0 where
+  pub rest : after ≡ withCounters before (after .counters)
+  pub errors : after .counters .errors ≡ before .counters .errors
+
 abbrev pub ClocksAlone : Type 0
-ClocksAlone =
-    (m : Machine) (head value : ℕ) → kindOf head ≡ 10 → stepOf m head value .machine ≡ withCounters m (stepOf m head value .machine .counters)
+ClocksAlone = (m : Machine) (head value : ℕ) → kindOf head ≡ 10 → TimersAlone m (stepOf m head value .machine)

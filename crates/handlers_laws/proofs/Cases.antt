@@ -128,3 +128,14 @@ step-cases m head value P h =
     go : (t : Bool) → eqb (shapeOf head value) 0 ≡ t → P (kindOf head) (ask m t (shapeOf head value) (eventOf m (kindOf head) (addressOf head) value))
     go true e = event-case m (addressOf head) value P h (kindOf head)
     go false e = h .refuses (kindOf head) (shapeOf head value) (eqb-false (shapeOf head value) 0 e)
+
+-- An event of one kind is refused, or is what that kind does.
+pub of-kind : (m : Machine) (head value k : ℕ) (P : Outcome → Type 0) → kindOf head ≡ k → ((q : ℕ) → P (refused m q)) → P (eventOf m k (addressOf head) value)
+    → P (stepOf m head value)
+unfolding stepOf soundStepOf
+of-kind m head value k P e r h = rw e (go (soundOf m) (eqb (shapeOf head value) 0))
+  where
+    go : (s t : Bool) → P (ask m s 8 (ask m t (shapeOf head value) (eventOf m k (addressOf head) value)))
+    go true true = h
+    go true false = r (shapeOf head value)
+    go false t = r 8

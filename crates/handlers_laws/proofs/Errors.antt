@@ -7,13 +7,16 @@ use lib.Dec.{eqb}
 use borrow.Author.Tests.{leb-true, le-leb, lt-leb}
 use Rattle.event.specs.Event.{addressOf}
 use Rattle.event.proofs.Laws.{error-shape}
+use Rattle.counters.specs.Errors as errors
 use Rattle.counters.proofs.Counts.{reset-errors, error-again, counted-each}
 use Rattle.handlers.specs.declared.Machine.{Machine}
+use Rattle.handlers.specs.declared.Outcome.{Outcome}
+use Rattle.handlers.specs.Fields.{withCounters}
 use Rattle.handlers.specs.Machines.{powerOnOf, soundOf}
-use Rattle.handlers.specs.Service.{accepted, ask, mayCount, errorEvent, eventOf, soundStepOf}
+use Rattle.handlers.specs.Service.{accepted, refused, ask, mayCount, errorEvent, eventOf, soundStepOf}
 use Rattle.handlers.specs.Calls.{errorOf, stepOf}
 use Rattle.handlers.specs.Errors.{counterIn, withCounter, PowerOnNoErrors, ErrorQuestions, ErrorCounted, ErrorsCounted, ErrorsAlone}
-use Rattle.handlers_laws.proofs.Cases.{step-cases}
+use Rattle.handlers_laws.proofs.Cases.{of-kind}
 
 pub power-on-no-errors : PowerOnNoErrors
 unfolding powerOnOf
@@ -46,24 +49,18 @@ unfolding errorOf errorEvent
 errors-counted m e = record { counts = counted m e; refuses = λ a h. rw (e, lt-leb a 2 h) }
 
 pub errors-alone : ErrorsAlone
-errors-alone m head value =
-    let a = addressOf head in
-    step-cases m head value (λ k o. k ≡ 11 → o .machine ≡ withCounter m a (counterIn (o .machine) a))
-    (record {
-      refuses = λ k q n z. rw (error-again (m .counters .errors) a);
-      samples = λ z. absurd (omega arith);
-      loads = λ z. absurd (omega arith);
-      stores = λ f z. absurd (omega arith);
-      reads = λ z. absurd (omega arith);
-      counter-reads = λ f z. absurd (omega arith);
-      writes = λ f z. absurd (omega arith);
-      counter-writes = λ f z. absurd (omega arith);
-      takes = λ f g z. absurd (omega arith);
-      opens = λ f z. absurd (omega arith);
-      chains = λ f g z. absurd (omega arith);
-      passes = λ z. absurd (omega arith);
-      returns = λ f z. absurd (omega arith);
-      masks = λ f g z. absurd (omega arith);
-      clocks = λ z. absurd (omega arith);
-      errors = λ f z. let l = leb-true a 2 f in let k = counted-each (m .counters) a (omega (arith, l)) in rw (k .counter, k .alone);
-    })
+unfolding eventOf errorEvent
+errors-alone m head value k = of-kind m head value 11 Alone k same (go (mayCount a) refl)
+  where
+    a : ℕ
+    a = addressOf head
+
+    Alone : Outcome → Type 0
+    Alone o = o .machine ≡ withCounter m a (counterIn (o .machine) a)
+
+    same : (q : ℕ) → Alone (refused m q)
+    same q = rw (error-again (m .counters .errors) a)
+
+    go : (t : Bool) → mayCount a ≡ t → Alone (ask m t 25 (accepted (withCounters m (errors.errorOf (m .counters) a .counters)) (errors.errorOf (m .counters) a .answer)))
+    go true e = let l = leb-true a 2 e in let f = counted-each (m .counters) a (omega (arith, l)) in rw (f .counter, f .alone)
+    go false e = same 25
