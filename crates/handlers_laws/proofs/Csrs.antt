@@ -1,5 +1,5 @@
 -- Question 12 over fifteen addresses, and a CSR of the counters after a write.
-use Prim.Native.Nat.{ℕ, zero, suc, _+_, _-_, _<_}
+use Prim.Native.Nat.{ℕ, zero, suc, _+_, _-_, _≤_, _<_}
 use mathlib.Core.Path.{_≡_, refl, sym, ap, _∙_}
 use mathlib.Core.Bool.{Bool, true, false, cond, not, _||_}
 use mathlib.Core.List.{List, [], _∷_, _++_}
@@ -79,41 +79,30 @@ of-01 a =
     go c.NoCsr h e = never e
 
 -- The nine of the timers and of the error counters are those that they have.
-timed : (r : Csr) → isCsr r ≡ true → isCsr (csrAt (csrAddress r)) ≡ true
-timed r e = rw (address-csr r e) e
+own : (r : Csr) → isCsr r ≡ true → ofCounters (csrAddress r) ≡ true
+own r e = rw (address-csr r e) e
 
-csrsOfCounters : List ℕ
+abbrev csrsOfCounters : List ℕ
 csrsOfCounters = csrsOfTimers ++ csrsOfErrors
 
 of-counters : (a : ℕ) → isOneOf a csrsOfCounters ≡ ofCounters a
-unfolding csrsOfCounters
 of-counters a =
     alike (isOneOf a csrsOfCounters) (ofCounters a)
-    (each-of (λ b. ofCounters b ≡ true) csrsOfCounters (
-      timed (Mitcnt 0) refl,
-      (
-        timed (Mitb 0) refl,
-        (
-          timed (Mitctl 0) refl,
-          (
-            timed (Mitcnt 1) refl,
-            (
-              timed (Mitb 1) refl,
-              (
-                timed (Mitctl 1) refl,
-                (timed (Ect 0) refl, (timed (Ect 1) refl, (timed (Ect 2) refl, tt))),
-              ),
-            ),
-          ),
-        ),
-      ),
-    ) a)
-    (λ e.
-    ⊎-elim
-    (λ l. let s : a ≡ 0x7D2 + (a - 0x7D2) = omega (arith, l .0) in rw s (row (a - 0x7D2) (omega (arith, l .1))))
-    (λ l. let s : a ≡ 0x7F0 + (a - 0x7F0) = omega (arith, l .0) in rw s (errors-row (a - 0x7F0) (omega (arith, l .1))))
-    (in-a-row a e))
+    (λ e. ⊎-elim (of-timers a) (of-errors a) (or-cases (isOneOf a csrsOfTimers) (isOneOf a csrsOfErrors) (sym (one-of-both a csrsOfTimers csrsOfErrors) ∙ e)))
+    (λ e. ⊎-elim (λ l. in-row 0x7D2 l (row (a - 0x7D2) (omega (arith, l .1)))) (λ l. in-row 0x7F0 l (errors-row (a - 0x7F0) (omega (arith, l .1)))) (in-a-row a e))
   where
+    of-timers : (b : ℕ) → isOneOf b csrsOfTimers ≡ true → ofCounters b ≡ true
+    of-timers =
+        each-of (λ b. ofCounters b ≡ true) csrsOfTimers
+        (own (Mitcnt 0) refl, (own (Mitb 0) refl, (own (Mitctl 0) refl, (own (Mitcnt 1) refl, (own (Mitb 1) refl, (own (Mitctl 1) refl, tt))))))
+
+    of-errors : (b : ℕ) → isOneOf b csrsOfErrors ≡ true → ofCounters b ≡ true
+    of-errors = each-of (λ b. ofCounters b ≡ true) csrsOfErrors (own (Ect 0) refl, (own (Ect 1) refl, (own (Ect 2) refl, tt)))
+
+    -- An address in the row from l on.
+    in-row : (l : ℕ) {h : ℕ} → (l ≤ a) × (a < h) → isOneOf (l + (a - l)) csrsOfCounters ≡ true → isOneOf a csrsOfCounters ≡ true
+    in-row l b t = let s : a ≡ l + (a - l) = omega (arith, b .0) in rw s t
+
     errors-row : (k : ℕ) → k < 3 → isOneOf (0x7F0 + k) csrsOfCounters ≡ true
     errors-row zero h = refl
     errors-row (suc zero) h = refl
@@ -130,7 +119,6 @@ of-counters a =
     row (suc (suc (suc (suc (suc (suc k)))))) h = absurd (omega arith)
 
 fifteen : (a : ℕ) → isOneOfFifteen a ≡ (csrs.isCsr (csrs.csrAt a) || ofCounters a)
-unfolding csrsOfCounters
 fifteen a = one-of-both a csrsOf01 csrsOfCounters ∙ rw (of-01 a, of-counters a)
 
 module _ (m : Machine) (e : soundOf m ≡ true) where
