@@ -43,6 +43,7 @@ pub const FAMILIES: &[Family] = &[
     ("current", current),
     ("mask", mask),
     ("ties", ties),
+    ("ties, both sides", ties_both_sides),
     ("claims", claims),
     ("winners", winners),
     ("sources beyond N", beyond),
@@ -1339,6 +1340,200 @@ fn ties(random: &mut Random, limits: Limits) -> Vec<u8> {
     script.take();
     script.audit();
     finish(script)
+}
+
+/// Equals on both sides of the splits of a comparator tree. Captures, takes and chains find the
+/// winner among them, while ranks, enables, lines and the order change.
+fn ties_both_sides(random: &mut Random, limits: Limits) -> Vec<u8> {
+    let count = count_to_split(random, limits);
+    let mut script = Script::with_count(random, count, limits.events);
+    if random.chance(3, 4) {
+        script.set_base();
+    }
+    for _ in 0..random.between(2, 5) {
+        settle(&mut script, random);
+        script.lower_bars();
+        match random.below(3) {
+            0 => captured_equals(&mut script, random),
+            1 => chained_equals(&mut script, random),
+            _ => nested_equals(&mut script, random),
+        }
+        // Often the record ends with handlers still open.
+        if script.full() || random.chance(1, 8) {
+            break;
+        }
+        script.unwind();
+    }
+    if random.chance(1, 4) {
+        script.set_threshold(random.rank(0, 15));
+    }
+    finish(script)
+}
+
+/// N at a power of two or beside one, or odd.
+fn count_to_split(random: &mut Random, limits: Limits) -> u32 {
+    let mut edges = vec![
+        2, 3, 4, 5, 7, 8, 9, 15, 16, 17, 31, 32, 33, 63, 64, 65, 127, 128, 129, 254, 255,
+    ];
+    edges.retain(|&count| count <= limits.sources);
+    if random.chance(3, 4) {
+        random.pick(&edges)
+    } else {
+        random.between(2, limits.sources - 1) | 1
+    }
+}
+
+/// Sources on both sides of some splits on the way down from the middle, or from the middle of the
+/// numbers 0 to a power of two. Often the first and the last source are among them.
+fn beside_splits(random: &mut Random, count: u32) -> Vec<u32> {
+    let (mut low, mut high) = if random.coin() {
+        (1, count)
+    } else {
+        (0, (count + 1).next_power_of_two() - 1)
+    };
+    let mut chosen = Vec::new();
+    while low < high {
+        let left = (high - low + 1 + random.below(2)) / 2;
+        let middle = low + left;
+        if random.chance(1, 2) {
+            let (before, after) = (
+                random.between(low, middle - 1),
+                random.between(middle, high),
+            );
+            chosen.push(random.pick(&[before, middle - 1]));
+            chosen.push(random.pick(&[after, middle]));
+        }
+        (low, high) = random.pick(&[(low, middle - 1), (middle, high)]);
+    }
+    chosen.retain(|source| (1..=count).contains(source));
+    if chosen.len() < 2 || random.chance(1, 3) {
+        chosen.extend([count, 1]);
+    }
+    chosen
+}
+
+/// Requests of one rank on both sides of some splits, and which sources they are of.
+fn raise_equals(script: &mut Script, random: &mut Random, rank: Rank) -> Vec<u32> {
+    let equals = beside_splits(random, script.count());
+    for _ in 0..random.below(4) {
+        bystander(script, random, rank);
+    }
+    for &source in &equals {
+        if random.chance(1, 4) {
+            let (edge, active_low) = (random.coin(), random.coin());
+            script.set_gateway(source, edge, active_low);
+        }
+        script.request(source, rank);
+    }
+    equals
+}
+
+/// A source that doesn't win over requests of a rank: of a lower one, or not eligible.
+fn bystander(script: &mut Script, random: &mut Random, rank: Rank) {
+    let any = random.between(1, script.count());
+    let source = random.pick(&[1, any, any, script.count()]);
+    let high = random.pick(&[rank, rank.higher()]);
+    match random.below(4) {
+        0 => script.request(source, rank.lower()),
+        1 => script.request(source, Rank::LOWEST),
+        2 => {
+            script.request(source, high);
+            script.set_enable(source, false);
+        }
+        _ => {
+            script.quiet(source);
+            script.set_rank(source, high);
+            script.set_enable(source, true);
+        }
+    }
+}
+
+/// One of the equals leaves, often the winner, or comes back, or one source goes above them, or the
+/// order turns.
+fn change_equals(script: &mut Script, random: &mut Random, equals: &[u32]) {
+    let (winner, rank) = script.machine.winner();
+    let one = random.pick(equals);
+    let above = random.pick(&[one, 1, script.count()]);
+    let leaving = if winner > 0 && random.chance(2, 3) {
+        winner as u32
+    } else {
+        one
+    };
+    match random.below(12) {
+        0..=2 => script.quiet(leaving),
+        3 => script.set_enable(leaving, false),
+        4 => script.set_rank(leaving, rank.lower()),
+        5 => script.request(above, rank.higher()),
+        6 => script.random_sample(),
+        7 => {
+            let switched = script.switch().refusal == 0;
+            if switched && random.coin() {
+                script.lower_bars();
+            }
+        }
+        _ => script.request(one, rank.max(Rank(1))),
+    }
+}
+
+/// Captures, with a change between any two. Equals of a lower rank may win in the other order.
+fn captured_equals(script: &mut Script, random: &mut Random) {
+    let rank = random.rank(2, 15);
+    let mut equals = Vec::new();
+    if random.coin() {
+        equals.extend(raise_equals(script, random, rank.lower()));
+    }
+    equals.extend(raise_equals(script, random, rank));
+    for _ in 0..random.between(4, 16) {
+        script.capture();
+        script.read_claim();
+        change_equals(script, random, &equals);
+    }
+    script.take();
+}
+
+/// A take, and chains to the other equals; some of them leave and come back.
+fn chained_equals(script: &mut Script, random: &mut Random) {
+    let rank = random.rank(1, 15);
+    let equals = raise_equals(script, random, rank);
+    script.take();
+    if random.chance(3, 4) {
+        script.open();
+        script.set_mask(0);
+    }
+    for _ in 0..random.between(2, 12) {
+        let serving = script.machine.handlers.last().map(|top| top.source as u32);
+        if let Some(source) = serving.filter(|_| random.chance(3, 4)) {
+            script.quiet(source);
+        }
+        if random.chance(1, 3) {
+            change_equals(script, random, &equals);
+        }
+        if random.chance(1, 3) {
+            script.request(random.pick(&equals), rank);
+        }
+        script.chain();
+        if random.chance(1, 3) {
+            script.read_claim();
+        }
+    }
+}
+
+/// Handlers of rising ranks, each taken from among equals.
+fn nested_equals(script: &mut Script, random: &mut Random) {
+    let (step, levels) = (random.between(1, 3), random.between(1, 4));
+    let ranks = rising_ranks(random).into_iter().step_by(step as usize);
+    for rank in ranks.take(levels as usize) {
+        raise_equals(script, random, rank);
+        script.take();
+        if random.chance(1, 3) {
+            script.chain();
+        }
+        script.open();
+        // None of the others is taken.
+        if random.chance(1, 4) {
+            script.take();
+        }
+    }
 }
 
 /// Claims, with the base changed before and after.

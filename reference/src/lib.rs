@@ -15,3 +15,4 @@ pub mod script;
 pub mod text;
 pub mod texts;
 pub mod timer;
+pub mod tree;

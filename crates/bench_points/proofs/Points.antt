@@ -7,7 +7,9 @@ use Rattle.event.specs.Listing.{listingSources, listingHeads, listingValues}
 use Rattle.pic_source.specs.Ranks.{mirror}
 use Rattle.pic_source.specs.ClosedForm.{closedForm}
 use Rattle.pic_source.specs.Sources.{isPending}
-use Rattle.pic.specs.Sources.{winnerTo, isEligible, entryOf, betterOf, higherOf, differenceOf}
+use Rattle.comparator.specs.Comparator.{entryOf, betterOf}
+use Rattle.comparator.specs.Trees.{passing, halvesTo}
+use Rattle.pic.specs.Sources.{winnerTo, isEligible, higherOf, differenceOf}
 use Rattle.pic.specs.Sound.{sourceSound}
 use Rattle.pic.specs.Sound as sound
 use Rattle.pic.specs.Calls as calls
@@ -39,7 +41,7 @@ use Rattle.bench_points.specs.Points.{Points, Plays, Holds, after, handl
 
 -- To unfold this is to unfold every rule.
 rules : Unit {0}
-unfolding printWithin eventLines ascii digitsTo readVerdict walkFrom wordsOf bytesOfWords endOf eachOf stepOf soundStepOf eventOf sampleEvent loadEvent storeEvent csrReadEvent controllerWrite csrWriteEvent takeEvent openEvent chainEvent returnEvent setMaskEvent clockEvent clockOf errorEvent errorOf marginAnswer soundOf handlersSound handlerSound belowOf levelOf powerOnOf shapeOf calls.powerOnOf calls.sourceCount calls.priorityOrder calls.currentRank calls.setCurrent calls.meihapOf calls.captureOf calls.lookOf registers.sampleOf registers.loadOf registers.storeOf csrs.csrReadOf csrs.csrWriteOf sound.soundOf sound.sourcesSound sourceSound isPending isEligible entryOf betterOf winnerTo higherOf differenceOf joinOf wordTo placesTo sourceRegister pageRegister offsetRefusal readOf writtenOf csrAt csrValue csrWritten mirror closedForm timers.timerAt timers.withTimer timers.timerSound timers.nextCount timers.clockOf errors.heldOf errors.errorSound errors.counted errors.selectedBit errors.errorAt errors.withError errors.errorsSound errors.errorOf whole.resetCounters whole.soundOf counters.csrOf counters.csrAt counters.csrValue counters.csrWritten
+unfolding printWithin eventLines ascii digitsTo readVerdict walkFrom wordsOf bytesOfWords endOf eachOf stepOf soundStepOf eventOf sampleEvent loadEvent storeEvent csrReadEvent controllerWrite csrWriteEvent takeEvent openEvent chainEvent returnEvent setMaskEvent clockEvent clockOf errorEvent errorOf marginAnswer soundOf handlersSound handlerSound belowOf levelOf powerOnOf shapeOf calls.powerOnOf calls.sourceCount calls.priorityOrder calls.currentRank calls.setCurrent calls.meihapOf calls.captureOf calls.lookOf registers.sampleOf registers.loadOf registers.storeOf csrs.csrReadOf csrs.csrWriteOf sound.soundOf sound.sourcesSound sourceSound isPending isEligible entryOf betterOf winnerTo passing halvesTo higherOf differenceOf joinOf wordTo placesTo sourceRegister pageRegister offsetRefusal readOf writtenOf csrAt csrValue csrWritten mirror closedForm timers.timerAt timers.withTimer timers.timerSound timers.nextCount timers.clockOf errors.heldOf errors.errorSound errors.counted errors.selectedBit errors.errorAt errors.withError errors.errorsSound errors.errorOf whole.resetCounters whole.soundOf counters.csrOf counters.csrAt counters.csrValue counters.csrWritten
 rules = tt
 
 -- The whole print and the long list apart from the table, since what one declaration may compute is limited.
@@ -103,6 +105,16 @@ points =
       k3-tie-taken = (refl, refl);
       k3-higher = refl;
       k3-higher-taken = (refl, refl);
+      k3-tree = refl;
+      k3-tree-higher = refl;
+      k3-to-the-right = refl;
+      k3-to-the-left = refl;
+      k3-padded = refl;
+      k3-out-of-order = refl;
+      tree-of-five = refl;
+      tree-of-none = refl;
+      rank-0-stopped = refl;
+      rank-0-stays = refl;
       k4-at = refl;
       k4-refused = (refl, refl);
       k4-below = refl;

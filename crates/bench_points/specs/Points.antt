@@ -1,5 +1,5 @@
 -- Document 01, "Bench points K1 to K10", the ends of the margin, the listing of "The player", a list that nests fifteen handlers, and the timers, the mirror, the
--- compact reader, the fields and the error counters of document 02: one table about the rules. A point is a list of events played from power-on, each event with what it must answer or be refused
+-- compact reader, the fields, the error counters and the comparator tree of document 02: one table about the rules. A point is a list of events played from power-on, each event with what it must answer or be refused
 -- with, and what the machine must hold after it; or bytes, and what a reader or a player must answer.
 use Prim.Native.Nat.{ℕ, zero, suc, _+_, _*_, _%_, _^_, _≤_}
 use Prim.Native.String.{String}
@@ -13,8 +13,12 @@ use Rattle.event.specs.Listing.{listingSources, listingHeads, listingValues}
 use Rattle.pic_source.specs.declared.Rank.{Rank}
 use Rattle.pic_source.specs.Ranks.{rank, field}
 use Rattle.pic_source.specs.ClosedForm.{closedForm}
+use Rattle.comparator.specs.Comparator.{noWinner, betterOf}
+use Rattle.comparator.specs.Trees.{Tree, unused, leaf, node, balancedOf}
 use Rattle.pic.specs.Fields.{withScalars, withCurrent}
 use Rattle.pic.specs.Sources.{fieldAt, rankAt, eligibleAt, winnerOf}
+use Rattle.pic.specs.Sound.{initial}
+use Rattle.pic_tree.specs.Tree.{rootOf, treeWinner}
 use Rattle.pic.specs.Calls.{sourceCount, priorityOrder, currentRank}
 use Rattle.counters.specs.Timers.{withControl, withTimer, resetTimer}
 use Rattle.counters.specs.Errors.{counterOf, heldOf}
@@ -174,6 +178,10 @@ Plays n es =
 -- Source s is the machine's winner, at rank r.
 abbrev pub Wins : Machine → ℕ → ℕ → Type 0
 Wins m s r = winnerOf (m .controller) ≡ record { source = s; rank = rank r }
+
+-- What passes at the root of a tree of comparators.
+abbrev pub Passes : Machine → Tree → ℕ → ℕ → Type 0
+Passes m t s r = rootOf (m .controller) t ≡ record { source = s; rank = rank r }
 
 -- The margin query is accepted and gives z.
 abbrev pub HasMargin : Machine → ℤ → Type 0
@@ -517,6 +525,21 @@ pub record Points : Type 0 where
   -- 3 at 6: 3 wins.
   pub k3-higher : Wins (after 4 (two-and-three ++ (store (meipl 3) 6 ∷ []))) 3 6
   pub k3-higher-taken : Plays 4 (two-and-three ++ (store (meipl 3) 6 ∷ take answers 12 ∷ []))
+  -- K3 by the balanced tree of comparators (document 02, No. 6): 2 wins, and with 3 at 6 that one;
+  pub k3-tree : Passes (after 4 two-and-three) (balancedOf 4) 2 5
+  pub k3-tree-higher : Passes (after 4 (two-and-three ++ (store (meipl 3) 6 ∷ []))) (balancedOf 4) 3 6
+  -- by other shapes, one of them padded with inputs of no source;
+  pub k3-to-the-right : Passes (after 4 two-and-three) (node (leaf 1) (node (leaf 2) (node (leaf 3) (leaf 4)))) 2 5
+  pub k3-to-the-left : Passes (after 4 two-and-three) (node (node (node (leaf 1) (leaf 2)) (leaf 3)) (leaf 4)) 2 5
+  pub k3-padded : Passes (after 4 two-and-three) (node (node unused (leaf 1)) (node (node (leaf 2) (leaf 3)) (node (leaf 4) unused))) 2 5
+  -- and 3 where the leaves are not in order.
+  pub k3-out-of-order : Passes (after 4 two-and-three) (node (node (leaf 1) (leaf 3)) (node (leaf 2) (leaf 4))) 3 5
+  -- The balanced tree of five sources, and of none.
+  pub tree-of-five : balancedOf 5 ≡ node (node (leaf 1) (leaf 2)) (node (leaf 3) (node (leaf 4) (leaf 5)))
+  pub tree-of-none : treeWinner (initial 0) ≡ noWinner
+  -- A number with rank 0 doesn't pass (0, 0), though (0, 0) passes it by.
+  pub rank-0-stopped : betterOf noWinner (record { source = 2; rank = rank 0 }) ≡ noWinner
+  pub rank-0-stays : betterOf (record { source = 2; rank = rank 0 }) noWinner ≡ record { source = 2; rank = rank 0 }
   -- K4 rank 5, threshold 5: margin 0, refusal 16;
   pub k4-at : HasMargin (after 4 (threshold 5)) (pos 0)
   pub k4-refused : Plays 4 (threshold 5 ++ (take refused 16 ∷ []))

@@ -1,16 +1,18 @@
 -- The winner that the rules compute is the one of 01's sentence.
 use Prim.Native.Nat.{ℕ, zero, suc, _≤_, _<_}
 use mathlib.Core.Path.{_≡_, refl, sym, ap, _∙_}
-use mathlib.Core.Bool.{Bool, true, false, cond, _&&_}
+use mathlib.Core.Bool.{Bool, true, false, _&&_}
 use mathlib.Core.Logic.{_⊎_, inl, inr, ⊎-elim}
 use native.Mathlib.Omega.{arith}
 use lib.Dec.{leb, ltb, eqb}
-use borrow.Author.Tests.{ltb-true, ltb-false, leb-true, le-ltb, le-leb, eq-eqb}
+use borrow.Author.Tests.{ltb-true, ltb-false, leb-true, le-leb, eq-eqb}
 use Rattle.pic.specs.declared.Controller.{Controller}
 use Rattle.pic_source.specs.declared.Rank.{Rank}
-use Rattle.pic.specs.declared.Winner.{Winner}
+use Rattle.comparator.specs.declared.Winner.{Winner}
 use Rattle.pic_source.specs.Ranks.{rank}
-use Rattle.pic.specs.Sources.{rankAt, enableAt, pendingAt, eligibleAt, winnerTo, winnerOf, Eligible, Before, IsWinner, isEligible, entryOf, betterOf}
+use Rattle.pic.specs.Sources.{rankAt, enableAt, pendingAt, eligibleAt, entryAt, winnerTo, winnerOf, Eligible, Before, IsWinner, isEligible}
+use Rattle.comparator.specs.Comparator.{noWinner, betterOf, Entered}
+use Rattle.comparator.proofs.Comparing.{passes, stays, neutral, entry-eligible, entry-none, entry-entered}
 use Rattle.pic_source.proofs.Bools.{never, and-parts, eq-cases}
 use Rattle.pic.proofs.Soundness.{Sound, rank-small}
 
@@ -72,18 +74,20 @@ module _ (c : Controller) (n : ℕ) where
       absurd (omega (arith, eligible-parts c (suc n) e .2))
 
   one-more : IsWinner c n (winnerTo c n) → IsWinner c (suc n) (winnerTo c (suc n))
-  unfolding winnerTo betterOf entryOf
+  unfolding winnerTo
   one-more h = go (eligibleAt c (suc n)) refl
     where
       under : (t : Bool) → eligibleAt c (suc n) ≡ true → ltb (winnerTo c n .rank .0) (rankAt c (suc n) .0) ≡ t
-          → IsWinner c (suc n) (cond t (record { source = suc n; rank = rankAt c (suc n) }) (winnerTo c n))
-      under true e f = taken (winnerTo c n) e (ltb-true _ _ f) h
-      under false e f = left (winnerTo c n) e (ltb-false _ _ f) h
+          → IsWinner c (suc n) (betterOf (winnerTo c n) (record { source = suc n; rank = rankAt c (suc n) }))
+      under true e f =
+          let l = ltb-true _ _ f in rw (passes (winnerTo c n) (record { source = suc n; rank = rankAt c (suc n) }) l) (taken (winnerTo c n) e l h)
+      under false e f =
+          let l = ltb-false _ _ f in rw (stays (winnerTo c n) (record { source = suc n; rank = rankAt c (suc n) }) l) (left (winnerTo c n) e l h)
 
       go : (t : Bool) → eligibleAt c (suc n) ≡ t
-          → IsWinner c (suc n) (betterOf (winnerTo c n) (entryOf (eligibleAt c (suc n)) (suc n) (rankAt c (suc n))))
-      go true e = rw e (under (ltb (winnerTo c n .rank .0) (rankAt c (suc n) .0)) e refl)
-      go false e = rw (e, le-ltb (winnerTo c n .rank .0) 0 (omega arith)) (passed (winnerTo c n) e h)
+          → IsWinner c (suc n) (betterOf (winnerTo c n) (entryAt c (suc n)))
+      go true e = rw (entry-eligible (suc n) (rankAt c (suc n)) e) (under (ltb (winnerTo c n .rank .0) (rankAt c (suc n) .0)) e refl)
+      go false e = rw (entry-none (suc n) (rankAt c (suc n)) e, neutral .right (winnerTo c n)) (passed (winnerTo c n) e h)
 
 winner-to : (c : Controller) (n : ℕ) → IsWinner c n (winnerTo c n)
 unfolding winnerTo
@@ -107,3 +111,15 @@ winner-small c h = go (winner-is c)
 pub eligible-is : (c : Controller) (s : ℕ) → enableAt c s ≡ 1 → pendingAt c s ≡ true → 1 ≤ rankAt c s .0 → eligibleAt c s ≡ true
 unfolding isEligible
 eligible-is c s e p h = rw (eq-eqb (enableAt c s) 1 e, p, le-leb 1 (rankAt c s .0) h)
+
+-- The scan, for the crates above: it begins with no source and goes on with the next; each enters with a rank of 1 or more, or as (0, 0).
+pub winner-none : (c : Controller) → winnerTo c 0 ≡ noWinner
+unfolding winnerTo
+winner-none c = refl
+
+pub winner-next : (c : Controller) (n : ℕ) → winnerTo c (suc n) ≡ betterOf (winnerTo c n) (entryAt c (suc n))
+unfolding winnerTo
+winner-next c n = refl
+
+pub source-entered : (c : Controller) (s : ℕ) → Entered (entryAt c s)
+source-entered c s = entry-entered (eligibleAt c s) s (rankAt c s) (λ e. eligible-parts c s e .2)

@@ -10,9 +10,10 @@ use Rattle.pic.specs.declared.Controller.{Controller}
 use Rattle.pic.specs.declared.Scalars.{Scalars}
 use Rattle.pic_source.specs.declared.Rank.{Rank}
 use Rattle.pic_source.specs.declared.Field.{Field}
-use Rattle.pic.specs.declared.Winner.{Winner}
 use Rattle.pic.specs.Fields.{withLatch}
-use Rattle.pic_source.specs.Ranks.{rank, field, rankOf}
+use Rattle.comparator.specs.declared.Winner.{Winner}
+use Rattle.comparator.specs.Comparator.{noWinner, entryOf, betterOf}
+use Rattle.pic_source.specs.Ranks.{field, rankOf}
 use Rattle.pic_source.specs.Sources.{latchAfter, isPending}
 
 -- "meiplS, meipt, meicidpl and meicurpl hold fields; the rank is worked out from field and priord at use." The field and the rank of a source.
@@ -65,22 +66,14 @@ isEligible enable pending r = eqb enable 1 && pending && leb 1 (r .0)
 abbrev pub eligibleAt : Controller → ℕ → Bool
 eligibleAt c s = isEligible (enableAt c s) (pendingAt c s) (rankAt c s)
 
--- No source: 0, of rank 0.
-abbrev pub noWinner : Winner
-noWinner = record { source = 0; rank = rank 0 }
-
--- A source enters with its number and rank if it is eligible, else as no source.
-unfoldable pub entryOf : Bool → ℕ → Rank → Winner
-entryOf eligible s r = cond eligible (record { source = s; rank = r }) noWinner
-
--- Of two, the second passes only if its rank is strictly higher.
-unfoldable pub betterOf : Winner → Winner → Winner
-betterOf a b = cond (ltb (a .rank .0) (b .rank .0)) b a
+-- What a source enters the comparison as: (number, rank) if it is eligible, else (0, 0).
+abbrev pub entryAt : Controller → ℕ → Winner
+entryAt c s = entryOf (eligibleAt c s) s (rankAt c s)
 
 -- The winner (01's word) among the sources 1 to n. `IsWinner` below is 01's sentence about it.
 unfoldable pub winnerTo : Controller → ℕ → Winner
 winnerTo c zero = noWinner
-winnerTo c (suc n) = betterOf (winnerTo c n) (entryOf (eligibleAt c (suc n)) (suc n) (rankAt c (suc n)))
+winnerTo c (suc n) = betterOf (winnerTo c n) (entryAt c (suc n))
 
 abbrev pub winnerOf : Controller → Winner
 winnerOf c = winnerTo c (c .sources)

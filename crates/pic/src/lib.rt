@@ -5,8 +5,8 @@ pub mod calls;
 mod sound;
 mod sources;
 
+use comparator::Winner;
 use pic_source::Field;
-use pic_source::Rank;
 
 // What the controller holds beside its sources.
 pub struct Scalars {
@@ -32,12 +32,6 @@ pub struct Controller {
     pub line: [u8; 256],
     pub latch: [u8; 256],
     pub scalars: Scalars,
-}
-
-// A source number and its rank; 0 and rank 0 where there is none.
-pub struct Winner {
-    pub source: u8,
-    pub rank: Rank,
 }
 
 // What an event hands back. A refused one answers 0 and hands back the controller as it was.

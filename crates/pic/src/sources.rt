@@ -1,30 +1,14 @@
-// The comparison of the sources, and the winner.
+// The winner, by a scan of the sources.
 
 ghost use mathlib.Core.Path.{_≡_};
-ghost use mathlib.Core.Bool.{_&&_};
-ghost use lib.Dec.{eqb};
-ghost use Rattle.pic_source.specs.Sources.{isPending};
-ghost use Rattle.pic.specs.Sources.{betterOf, winnerOf};
+ghost use Rattle.pic.specs.Sources.{winnerOf};
 use crate::Controller;
-use crate::Winner;
+use comparator::Winner;
+use comparator::better;
 use pic_source::Field;
 use pic_source::Rank;
 use pic_source::ranks::to_rank;
-use pic_source::sources::pending;
-
-// Of two, the second only if its rank is strictly higher.
-fn better(a: Winner, b: Winner) -> Winner
-    ensures { λ r. ⌜ r ≡ betterOf a b ⌝ }
-{
-    if a.rank.0 < b.rank.0 { b } else { a }
-}
-
-// Whether a source is enabled and pending, by its values.
-fn waiting(enable: u8, trigger: u8, polarity: u8, line: u8, latch: u8) -> bool
-    ensures { λ r. ⌜ r ≡ eqb enable 1 && isPending trigger polarity line latch ⌝ }
-{
-    (enable == 1) & pending(trigger, polarity, line, latch)
-}
+use pic_source::sources::waiting;
 
 impl Controller {
     // The winner: the eligible source of highest rank, of equals the lowest number. The rank of a source is worked out only where it is enabled and pending; a rank of

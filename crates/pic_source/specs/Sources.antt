@@ -19,3 +19,7 @@ latchAfter line polarity latch = cond (isActive line polarity) 1 latch
 -- A source is pending: type 0 (level) when active, type 1 (edge) when its latch is set.
 unfoldable pub isPending : ℕ → ℕ → ℕ → ℕ → Bool
 isPending trigger polarity line latch = cond (eqb trigger 0) (isActive line polarity) (eqb latch 1)
+
+-- Enabled and pending: eligible, if its rank is 1 or more.
+abbrev pub isWaiting : ℕ → ℕ → ℕ → ℕ → ℕ → Bool
+isWaiting enable trigger polarity line latch = eqb enable 1 && isPending trigger polarity line latch

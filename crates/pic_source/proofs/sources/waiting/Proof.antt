@@ -1,6 +1,6 @@
 use borrow.Author.Needs.{needs}
-use Rattle.pic.proofs.sources.waiting.Statement.{statement}
-use Rattle.pic.proofs.sources.waiting.Tie as tie
+use Rattle.pic_source.proofs.sources.waiting.Statement.{statement}
+use Rattle.pic_source.proofs.sources.waiting.Tie as tie
 
 pending-requires : tie.Need-pending-requires
 pending-requires c κs = search needs

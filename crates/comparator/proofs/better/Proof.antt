@@ -1,7 +1,7 @@
 use borrow.Author.Tests.{lt-ltb, le-ltb}
-use Rattle.pic.specs.Sources.{betterOf}
-use Rattle.pic.proofs.sources.better.Statement.{statement}
-use Rattle.pic.proofs.sources.better.Tie as tie
+use Rattle.comparator.specs.Comparator.{betterOf}
+use Rattle.comparator.proofs.better.Statement.{statement}
+use Rattle.comparator.proofs.better.Tie as tie
 
 returns : tie.Need-returns
 unfolding betterOf

@@ -1,0 +1,3 @@
+-- The rules of the comparison, and of trees of comparators.
+pub mod Comparator
+pub mod Trees

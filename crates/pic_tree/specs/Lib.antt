@@ -1,0 +1,2 @@
+-- The rules of the winner by a tree of comparators.
+pub mod Tree
