@@ -7,8 +7,8 @@ use Rattle.event.specs.Listing.{listingSources, listingHeads, listingValues}
 use Rattle.pic_source.specs.Ranks.{mirror}
 use Rattle.pic_source.specs.ClosedForm.{closedForm}
 use Rattle.pic_source.specs.Sources.{isPending}
-use Rattle.comparator.specs.Comparator.{entryOf, betterOf}
-use Rattle.comparator.specs.Trees.{passing, halvesTo}
+use Rattle.pic_comparator.specs.Comparator.{entryOf, betterOf}
+use Rattle.pic_comparator.specs.Trees.{passing, halvesTo}
 use Rattle.pic.specs.Sources.{winnerTo, isEligible, higherOf, differenceOf}
 use Rattle.pic.specs.Sound.{sourceSound}
 use Rattle.pic.specs.Sound as sound
@@ -107,6 +107,7 @@ points =
       k3-higher-taken = (refl, refl);
       k3-tree = refl;
       k3-tree-higher = refl;
+      k3-tree-reversed = refl;
       k3-to-the-right = refl;
       k3-to-the-left = refl;
       k3-padded = refl;

@@ -1,6 +1,7 @@
 -- Document 01, "Bench points K1 to K10", the ends of the margin, the listing of "The player", a list that nests fifteen handlers, and the timers, the mirror, the
--- compact reader, the fields, the error counters and the comparator tree of document 02: one table about the rules. A point is a list of events played from power-on, each event with what it must answer or be refused
--- with, and what the machine must hold after it; or bytes, and what a reader or a player must answer.
+-- compact reader, the fields, the error counters and the comparator tree of document 02: one table about the rules. A point is a list of events played from power-on,
+-- each event with what it must answer or be refused with, and what the machine must hold after it, or what passes at the root of a tree over its sources; or bytes, and
+-- what a reader or a player must answer.
 use Prim.Native.Nat.{ℕ, zero, suc, _+_, _*_, _%_, _^_, _≤_}
 use Prim.Native.String.{String}
 use mathlib.Core.Path.{_≡_}
@@ -13,8 +14,8 @@ use Rattle.event.specs.Listing.{listingSources, listingHeads, listingValues}
 use Rattle.pic_source.specs.declared.Rank.{Rank}
 use Rattle.pic_source.specs.Ranks.{rank, field}
 use Rattle.pic_source.specs.ClosedForm.{closedForm}
-use Rattle.comparator.specs.Comparator.{noWinner, betterOf}
-use Rattle.comparator.specs.Trees.{Tree, unused, leaf, node, balancedOf}
+use Rattle.pic_comparator.specs.Comparator.{noWinner, betterOf}
+use Rattle.pic_comparator.specs.Trees.{Tree, unused, leaf, node, balancedOf}
 use Rattle.pic.specs.Fields.{withScalars, withCurrent}
 use Rattle.pic.specs.Sources.{fieldAt, rankAt, eligibleAt, winnerOf}
 use Rattle.pic.specs.Sound.{initial}
@@ -528,6 +529,8 @@ pub record Points : Type 0 where
   -- K3 by the balanced tree of comparators (document 02, No. 6): 2 wins, and with 3 at 6 that one;
   pub k3-tree : Passes (after 4 two-and-three) (balancedOf 4) 2 5
   pub k3-tree-higher : Passes (after 4 (two-and-three ++ (store (meipl 3) 6 ∷ []))) (balancedOf 4) 3 6
+  -- by rank and not by field, so with priord 1, where field 5 is rank 10 and field 6 is rank 9, it is 2;
+  pub k3-tree-reversed : Passes (after 4 (two-and-three ++ (store (meipl 3) 6 ∷ store mpiccfg 1 ∷ []))) (balancedOf 4) 2 10
   -- by other shapes, one of them padded with inputs of no source;
   pub k3-to-the-right : Passes (after 4 two-and-three) (node (leaf 1) (node (leaf 2) (node (leaf 3) (leaf 4)))) 2 5
   pub k3-to-the-left : Passes (after 4 two-and-three) (node (node (node (leaf 1) (leaf 2)) (leaf 3)) (leaf 4)) 2 5
@@ -537,7 +540,7 @@ pub record Points : Type 0 where
   -- The balanced tree of five sources, and of none.
   pub tree-of-five : balancedOf 5 ≡ node (node (leaf 1) (leaf 2)) (node (leaf 3) (node (leaf 4) (leaf 5)))
   pub tree-of-none : treeWinner (initial 0) ≡ noWinner
-  -- A number with rank 0 doesn't pass (0, 0), though (0, 0) passes it by.
+  -- A number with rank 0 is lost to the right of (0, 0), and stays to the left of it.
   pub rank-0-stopped : betterOf noWinner (record { source = 2; rank = rank 0 }) ≡ noWinner
   pub rank-0-stays : betterOf (record { source = 2; rank = rank 0 }) noWinner ≡ record { source = 2; rank = rank 0 }
   -- K4 rank 5, threshold 5: margin 0, refusal 16;

@@ -8,10 +8,10 @@ ghost use Rattle.handlers.specs.Machines.{uppermost as uppermostHandler}
 ghost use Rattle.handlers.specs.Service.{takenBy, takeEvent, withUppermost, openedBy, openEvent, followed, chainEvent, returned, returnEvent, setMaskEvent};
 use crate::Machine;
 use crate::Outcome;
-use comparator::Winner;
 use handlers_stack::Handler;
 use handlers_stack::put;
 use handlers_stack::uppermost;
+use pic_comparator::Winner;
 
 // Whether a margin is above 0.
 fn is_above(margin: i32) -> bool

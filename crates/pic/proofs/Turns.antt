@@ -8,9 +8,9 @@ use lib.Dec.{leb}
 use borrow.Author.Tests.{leb-false}
 use Rattle.pic_source.specs.declared.Rank.{Rank}
 use Rattle.pic_source.specs.Sources.{isWaiting}
-use Rattle.comparator.specs.declared.Winner.{Winner}
-use Rattle.comparator.specs.Comparator.{entryOf, betterOf}
-use Rattle.comparator.proofs.Comparing.{stays, neutral, entry-eligible, entry-none}
+use Rattle.pic_comparator.specs.declared.Winner.{Winner}
+use Rattle.pic_comparator.specs.Comparator.{entryOf, betterOf}
+use Rattle.pic_comparator.proofs.Comparing.{stays, neutral, entry-eligible, entry-none}
 use Rattle.pic.specs.Sources.{rankAt, enableAt, triggerAt, polarityAt, lineAt, latchAt, isEligible, entryAt, winnerTo}
 use Rattle.pic.specs.declared.Controller.{Controller}
 use Rattle.pic.specs.Sound.{sourceSoundAt, sourcesSound}

@@ -8,11 +8,11 @@ use lib.Dec.{leb, ltb, eqb}
 use borrow.Author.Tests.{ltb-true, ltb-false, leb-true, le-leb, eq-eqb}
 use Rattle.pic.specs.declared.Controller.{Controller}
 use Rattle.pic_source.specs.declared.Rank.{Rank}
-use Rattle.comparator.specs.declared.Winner.{Winner}
+use Rattle.pic_comparator.specs.declared.Winner.{Winner}
 use Rattle.pic_source.specs.Ranks.{rank}
 use Rattle.pic.specs.Sources.{rankAt, enableAt, pendingAt, eligibleAt, entryAt, winnerTo, winnerOf, Eligible, Before, IsWinner, isEligible}
-use Rattle.comparator.specs.Comparator.{noWinner, betterOf, Entered}
-use Rattle.comparator.proofs.Comparing.{passes, stays, neutral, entry-eligible, entry-none, entry-entered}
+use Rattle.pic_comparator.specs.Comparator.{noWinner, betterOf, Entered}
+use Rattle.pic_comparator.proofs.Comparing.{passes, stays, neutral, entry-eligible, entry-none, entry-entered}
 use Rattle.pic_source.proofs.Bools.{never, and-parts, eq-cases}
 use Rattle.pic.proofs.Soundness.{Sound, rank-small}
 

@@ -7,7 +7,7 @@ use Rattle.pic_source.specs.declared.Rank.{Rank}
 use Rattle.pic_source.specs.Ranks.{fieldOf}
 use Rattle.pic.specs.declared.Controller.{Controller}
 use Rattle.pic.specs.declared.Scalars.{Scalars}
-use Rattle.comparator.specs.declared.Winner.{Winner}
+use Rattle.pic_comparator.specs.declared.Winner.{Winner}
 use Rattle.pic.specs.declared.Outcome.{Outcome}
 use Rattle.pic.specs.declared.Look.{Look}
 use Rattle.pic.specs.Fields.{withScalars, withClaim, withClaimed, withCurrent}

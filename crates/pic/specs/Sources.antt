@@ -11,8 +11,8 @@ use Rattle.pic.specs.declared.Scalars.{Scalars}
 use Rattle.pic_source.specs.declared.Rank.{Rank}
 use Rattle.pic_source.specs.declared.Field.{Field}
 use Rattle.pic.specs.Fields.{withLatch}
-use Rattle.comparator.specs.declared.Winner.{Winner}
-use Rattle.comparator.specs.Comparator.{noWinner, entryOf, betterOf}
+use Rattle.pic_comparator.specs.declared.Winner.{Winner}
+use Rattle.pic_comparator.specs.Comparator.{noWinner, entryOf, betterOf}
 use Rattle.pic_source.specs.Ranks.{field, rankOf}
 use Rattle.pic_source.specs.Sources.{latchAfter, isPending}
 

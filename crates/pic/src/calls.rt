@@ -6,7 +6,7 @@ ghost use Rattle.pic.specs.Calls.{accepts, refuses, sourceCount, priorit
 use crate::Controller;
 use crate::Look;
 use crate::Outcome;
-use comparator::Winner;
+use pic_comparator::Winner;
 use pic_source::Rank;
 use pic_source::ranks::to_field;
 use pic_source::ranks::to_rank;

@@ -5,7 +5,7 @@ pub mod calls;
 mod sound;
 mod sources;
 
-use comparator::Winner;
+use pic_comparator::Winner;
 use pic_source::Field;
 
 // What the controller holds beside its sources.

@@ -3,8 +3,8 @@
 ghost use mathlib.Core.Path.{_≡_};
 ghost use Rattle.pic.specs.Sources.{winnerOf};
 use crate::Controller;
-use comparator::Winner;
-use comparator::better;
+use pic_comparator::Winner;
+use pic_comparator::better;
 use pic_source::Field;
 use pic_source::Rank;
 use pic_source::ranks::to_rank;

@@ -9,7 +9,7 @@ use lib.Signed.{ltZ}
 use borrow.Author.Tests.{ltb-true}
 use Rattle.pic.specs.declared.Controller.{Controller}
 use Rattle.pic.specs.declared.Look.{Look}
-use Rattle.comparator.specs.declared.Winner.{Winner}
+use Rattle.pic_comparator.specs.declared.Winner.{Winner}
 use Rattle.pic.specs.Sources.{thresholdOf, currentOf, HasWinner, IsWinner, winnerOf, higherOf}
 use Rattle.pic.specs.Sound.{soundOf}
 use Rattle.pic.specs.Calls.{sourceCount, currentRank, lookOf}

@@ -12,7 +12,7 @@ use borrow.Author.Tests.{eqb-true, eqb-false, eq-eqb, ne-eqb, le-leb}
 use Rattle.pic.specs.declared.Controller.{Controller}
 use Rattle.pic.specs.declared.Scalars.{Scalars}
 use Rattle.pic.specs.declared.Outcome.{Outcome}
-use Rattle.comparator.specs.declared.Winner.{Winner}
+use Rattle.pic_comparator.specs.declared.Winner.{Winner}
 use Rattle.pic_source.specs.declared.Rank.{Rank}
 use Rattle.pic_source.specs.declared.Field.{Field}
 use Rattle.pic_source.specs.Ranks.{field, mirror, rankOf}

@@ -10,11 +10,11 @@ use lib.Seq.{getD-set-same, getD-set-other}
 use lib.Dec.{leb}
 use Rattle.pic_source.specs.Ranks.{rank}
 use Rattle.pic_source.proofs.Bools.{eq-cases}
-use Rattle.comparator.specs.Comparator.{entryOf}
-use Rattle.comparator.specs.Trees.{passing, balancedOf, enteredBy}
-use Rattle.comparator.proofs.Comparing.{enters-waiting}
-use Rattle.comparator.proofs.Shapes.{alike, ranks-entered}
-use Rattle.comparator.proofs.Halves.{balanced-tree}
+use Rattle.pic_comparator.specs.Comparator.{entryOf}
+use Rattle.pic_comparator.specs.Trees.{passing, balancedOf, enteredBy}
+use Rattle.pic_comparator.proofs.Comparing.{enters-waiting}
+use Rattle.pic_comparator.proofs.Shapes.{alike, ranks-entered}
+use Rattle.pic_comparator.proofs.Halves.{balanced-tree}
 use Rattle.pic.specs.declared.Controller.{Controller}
 use Rattle.pic.specs.Sources.{rankAt, entryAt, winnerOf}
 use Rattle.pic.proofs.Winning.{source-entered}

@@ -1,7 +1,7 @@
 -- Every tree over the sources gives 01's winner.
 use mathlib.Core.Path.{_≡_, _∙_, sym}
-use Rattle.comparator.specs.Trees.{scanOf}
-use Rattle.comparator.proofs.Shapes.{any-shape, scan-over, scan-passes}
+use Rattle.pic_comparator.specs.Trees.{scanOf}
+use Rattle.pic_comparator.proofs.Shapes.{any-shape, scan-over, scan-passes}
 use Rattle.pic.specs.declared.Controller.{Controller}
 use Rattle.pic.specs.Sources.{entryAt, winnerTo, winnerOf}
 use Rattle.pic.proofs.Winning.{winner-none, winner-next, winner-is, source-entered}

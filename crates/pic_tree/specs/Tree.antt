@@ -5,8 +5,8 @@ use mathlib.Core.Bool.{Bool, cond}
 use mathlib.Core.List.{List}
 use Rattle.pic_source.specs.declared.Field.{Field}
 use Rattle.pic_source.specs.Ranks.{rankOf}
-use Rattle.comparator.specs.declared.Winner.{Winner}
-use Rattle.comparator.specs.Trees.{Tree, OverSources, passing, balancedOf, enteredBy}
+use Rattle.pic_comparator.specs.declared.Winner.{Winner}
+use Rattle.pic_comparator.specs.Trees.{Tree, OverSources, passing, balancedOf, enteredBy}
 use Rattle.pic.specs.declared.Controller.{Controller}
 use Rattle.pic.specs.Sources.{entryAt, winnerOf, IsWinner}
 

@@ -3,9 +3,9 @@
 ghost use mathlib.Core.Path.{_≡_};
 ghost use Rattle.pic.specs.Sources.{winnerOf};
 ghost use Rattle.pic_tree.specs.Tree.{enteringRank, Entering, treeWinner};
-use comparator::Winner;
-use comparator::trees::balanced;
 use pic::Controller;
+use pic_comparator::Winner;
+use pic_comparator::trees::balanced;
 use pic_source::Field;
 use pic_source::ranks::to_rank;
 use pic_source::sources::waiting;

@@ -3,7 +3,7 @@
 pub mod trees;
 
 ghost use mathlib.Core.Path.{_≡_};
-ghost use Rattle.comparator.specs.Comparator.{betterOf};
+ghost use Rattle.pic_comparator.specs.Comparator.{betterOf};
 use pic_source::Rank;
 
 // A source number and its rank; 0 and rank 0 where there is none.

@@ -2,8 +2,8 @@
 
 ghost use mathlib.Core.Path.{_≡_};
 ghost use Prim.Native.Nat.{_+_, _≤_};
-ghost use Rattle.comparator.specs.Comparator.{noWinner};
-ghost use Rattle.comparator.specs.Trees.{enteredBy, passing, halvesOf, balancedOf};
+ghost use Rattle.pic_comparator.specs.Comparator.{noWinner};
+ghost use Rattle.pic_comparator.specs.Trees.{enteredBy, passing, halvesOf, balancedOf};
 use crate::Winner;
 use crate::better;
 use pic_source::Rank;

@@ -6,8 +6,8 @@ use mathlib.Core.List.{List, [], _∷_, _++_}
 use lib.ListN.{length, getD}
 use lib.Dec.{leb, ltb}
 use Rattle.pic_source.specs.Ranks.{rank}
-use Rattle.comparator.specs.declared.Winner.{Winner}
-use Rattle.comparator.specs.Comparator.{noWinner, entryOf, betterOf, Entered}
+use Rattle.pic_comparator.specs.declared.Winner.{Winner}
+use Rattle.pic_comparator.specs.Comparator.{noWinner, entryOf, betterOf, Entered}
 
 -- "The supplier builds the winner as a tree of two-way comparators, and wants any tree shape allowed." An input is wired to a source, or to none.
 pub data Tree : Type 0 where

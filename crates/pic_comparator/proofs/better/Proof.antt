@@ -1,7 +1,7 @@
 use borrow.Author.Tests.{lt-ltb, le-ltb}
-use Rattle.comparator.specs.Comparator.{betterOf}
-use Rattle.comparator.proofs.better.Statement.{statement}
-use Rattle.comparator.proofs.better.Tie as tie
+use Rattle.pic_comparator.specs.Comparator.{betterOf}
+use Rattle.pic_comparator.proofs.better.Statement.{statement}
+use Rattle.pic_comparator.proofs.better.Tie as tie
 
 returns : tie.Need-returns
 unfolding betterOf

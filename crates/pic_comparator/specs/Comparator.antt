@@ -6,7 +6,7 @@ use mathlib.Core.Bool.{Bool, cond}
 use lib.Dec.{ltb}
 use Rattle.pic_source.specs.declared.Rank.{Rank}
 use Rattle.pic_source.specs.Ranks.{rank}
-use Rattle.comparator.specs.declared.Winner.{Winner}
+use Rattle.pic_comparator.specs.declared.Winner.{Winner}
 
 -- No source: (0, 0).
 abbrev pub noWinner : Winner

@@ -5,7 +5,7 @@ use mathlib.Core.List.{List, [], _∷_, _++_}
 use native.Mathlib.Nat.{zero-add, add-zero, suc-add}
 use native.Mathlib.Omega.{arith}
 use lib.ListN.{getD}
-use Rattle.comparator.specs.Trees.{numbers, Numbers}
+use Rattle.pic_comparator.specs.Trees.{numbers, Numbers}
 
 pub numbers-are : (s n : ℕ) → Numbers s n (numbers s n)
 unfolding numbers

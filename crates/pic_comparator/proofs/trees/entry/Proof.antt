@@ -1,8 +1,8 @@
 use mathlib.Core.Path.{_∙_}
 use borrow.Author.Needs.{needs}
-use Rattle.comparator.proofs.Comparing.{enters-none, enters-ranked}
-use Rattle.comparator.proofs.trees.entry.Statement.{statement}
-use Rattle.comparator.proofs.trees.entry.Tie as tie
+use Rattle.pic_comparator.proofs.Comparing.{enters-none, enters-ranked}
+use Rattle.pic_comparator.proofs.trees.entry.Statement.{statement}
+use Rattle.pic_comparator.proofs.trees.entry.Tie as tie
 
 element-copy-out-rank : tie.Need-element-copy-out-rank
 element-copy-out-rank c = search needs

@@ -8,11 +8,11 @@ use lib.ListN.{getD}
 use lib.Dec.{leb}
 use borrow.Author.Tests.{leb-true}
 use Rattle.pic_source.specs.Ranks.{rank}
-use Rattle.comparator.specs.declared.Winner.{Winner}
-use Rattle.comparator.specs.Comparator.{noWinner, betterOf, Entered}
-use Rattle.comparator.specs.Trees.{Tree, unused, leaf, node, leaves, passing, numbers, OverSources, AnyShape, scanOf, enteredBy}
-use Rattle.comparator.proofs.Counting.{numbers-last}
-use Rattle.comparator.proofs.Comparing.{associative, neutral, entered, entry-entered}
+use Rattle.pic_comparator.specs.declared.Winner.{Winner}
+use Rattle.pic_comparator.specs.Comparator.{noWinner, betterOf, Entered}
+use Rattle.pic_comparator.specs.Trees.{Tree, unused, leaf, node, leaves, passing, numbers, OverSources, AnyShape, scanOf, enteredBy}
+use Rattle.pic_comparator.proofs.Counting.{numbers-last}
+use Rattle.pic_comparator.proofs.Comparing.{associative, neutral, entered, entry-entered}
 
 -- What passes of a list of sources, one after the other, after w.
 unfoldable along : (ℕ → Winner) → Winner → List ℕ → Winner

@@ -8,8 +8,8 @@ use lib.Dec.{leb, ltb}
 use borrow.Author.Tests.{ltb-true, ltb-false, lt-ltb, le-ltb, le-leb}
 use Rattle.pic_source.specs.declared.Rank.{Rank}
 use Rattle.pic_source.specs.Ranks.{rank}
-use Rattle.comparator.specs.declared.Winner.{Winner}
-use Rattle.comparator.specs.Comparator.{noWinner, entryOf, betterOf, Associative, Entered, Neutral}
+use Rattle.pic_comparator.specs.declared.Winner.{Winner}
+use Rattle.pic_comparator.specs.Comparator.{noWinner, entryOf, betterOf, Associative, Entered, Neutral}
 
 -- A right one of a higher rank passes, and no other.
 pub passes : (a b : Winner) → a .rank .0 < b .rank .0 → betterOf a b ≡ b

@@ -6,10 +6,10 @@ use native.Mathlib.Nat.{pow-suc}
 use native.Mathlib.Omega.{arith}
 use lib.Dec.{ltb}
 use lib.ListN.{length}
-use Rattle.comparator.specs.declared.Winner.{Winner}
-use Rattle.comparator.specs.Comparator.{noWinner, betterOf}
-use Rattle.comparator.specs.Trees.{Tree, node, leaves, passing, numbers, halvesTo, halvesOf, Balanced, nothing, alone, both, comparators, levels, BalancedTree}
-use Rattle.comparator.proofs.Counting.{numbers-are, numbers-parts}
+use Rattle.pic_comparator.specs.declared.Winner.{Winner}
+use Rattle.pic_comparator.specs.Comparator.{noWinner, betterOf}
+use Rattle.pic_comparator.specs.Trees.{Tree, node, leaves, passing, numbers, halvesTo, halvesOf, Balanced, nothing, alone, both, comparators, levels, BalancedTree}
+use Rattle.pic_comparator.proofs.Counting.{numbers-are, numbers-parts}
 
 -- What is said of the balanced tree of the n sources from s on.
 record Halves (s n : ℕ) (t : Tree) : Type 0 where
