@@ -1,13 +1,14 @@
 -- The comparator is associative, and (0, 0) is neutral for what a source can enter as.
 use Prim.Native.Nat.{ℕ, _≤_, _<_}
-use mathlib.Core.Path.{_≡_, refl}
+use mathlib.Core.Path.{_≡_, refl, sym, _∙_}
 use mathlib.Core.Bool.{Bool, true, false, cond, _&&_}
-use mathlib.Core.Logic.{inl, inr}
+use mathlib.Core.Logic.{inl, inr, ⊎-elim}
 use native.Mathlib.Omega.{arith}
-use lib.Dec.{leb, ltb}
-use borrow.Author.Tests.{ltb-true, ltb-false, lt-ltb, le-ltb, le-leb}
+use lib.Dec.{leb}
+use borrow.Author.Tests.{lt-ltb, le-ltb, le-leb}
 use Rattle.pic_source.specs.declared.Rank.{Rank}
 use Rattle.pic_source.specs.Ranks.{rank}
+use Rattle.pic_source.proofs.Bools.{le-cases}
 use Rattle.pic_comparator.specs.declared.Winner.{Winner}
 use Rattle.pic_comparator.specs.Comparator.{noWinner, entryOf, betterOf, Associative, Entered, Neutral}
 
@@ -20,26 +21,15 @@ pub stays : (a b : Winner) → b .rank .0 ≤ a .rank .0 → betterOf a b ≡ a
 unfolding betterOf
 stays a b h = rw (le-ltb (a .rank .0) (b .rank .0) h)
 
+-- Of two, the left one stays or the right one passes.
+either : {P : Type 0} (a b : Winner) → (b .rank .0 ≤ a .rank .0 → P) → (a .rank .0 < b .rank .0 → P) → P
+either a b f g = ⊎-elim f g (le-cases (b .rank .0) (a .rank .0))
+
 pub associative : Associative
-associative a b c = go (ltb (a .rank .0) (b .rank .0)) (ltb (b .rank .0) (c .rank .0)) refl refl
-  where
-    go : (x y : Bool) → ltb (a .rank .0) (b .rank .0) ≡ x → ltb (b .rank .0) (c .rank .0) ≡ y → betterOf a (betterOf b c) ≡ betterOf (betterOf a b) c
-    go true true e f =
-        let l = ltb-true _ _ e in
-        let m = ltb-true _ _ f in
-        rw (passes a b l, passes b c m) (passes a c (omega arith))
-    go true false e f =
-        let l = ltb-true _ _ e in
-        let m = ltb-false _ _ f in
-        rw (stays b c m, passes a b l, stays b c m)
-    go false true e f =
-        let l = ltb-false _ _ e in
-        let m = ltb-true _ _ f in
-        rw (passes b c m, stays a b l)
-    go false false e f =
-        let l = ltb-false _ _ e in
-        let m = ltb-false _ _ f in
-        rw (stays b c m, stays a b l, stays a c (omega arith))
+associative a b c =
+    either a b
+    (λ l. either b c (λ m. rw (stays b c m, stays a b l) (sym (stays a c (omega arith)))) (λ m. rw (passes b c m, stays a b l)))
+    (λ l. either b c (λ m. rw (stays b c m, passes a b l, stays b c m)) (λ m. rw (passes b c m, passes a b l) (passes a c (omega arith) ∙ sym (passes b c m))))
 
 pub neutral : Neutral
 neutral = record { right = λ w. stays w noWinner (omega arith); left = left; stopped = λ w e. stays noWinner w (omega (arith, e)) }
@@ -50,11 +40,7 @@ neutral = record { right = λ w. stays w noWinner (omega arith); left = left; st
 
 -- What passes of two that sources can enter as is such a one.
 pub entered : (a b : Winner) → Entered a → Entered b → Entered (betterOf a b)
-entered a b ha hb = go (ltb (a .rank .0) (b .rank .0)) refl
-  where
-    go : (x : Bool) → ltb (a .rank .0) (b .rank .0) ≡ x → Entered (betterOf a b)
-    go true e = rw (passes a b (ltb-true _ _ e)) hb
-    go false e = rw (stays a b (ltb-false _ _ e)) ha
+entered a b ha hb = either a b (λ l. rw (stays a b l) ha) (λ l. rw (passes a b l) hb)
 
 -- An eligible source enters with number and rank, and any other as (0, 0).
 module _ {eligible : Bool} (s : ℕ) (r : Rank) where

@@ -54,9 +54,7 @@ halves-are zero s (suc n) h = absurd (omega arith)
 halves-are (suc k) s zero h = record { over = refl; balanced = nothing; comparators = refl; levels = λ k i. omega arith }
 halves-are (suc k) s (suc zero) h = record { over = refl; balanced = alone; comparators = refl; levels = λ k i. omega arith }
 halves-are (suc k) s (suc (suc n)) h =
-    split (suc (suc n) / 2) (suc (suc n) - suc (suc n) / 2) (omega arith) (omega arith) (omega arith) (omega arith) (omega arith)
-    (halves-are k s (suc (suc n) / 2) (omega arith))
-    (halves-are k (s + suc (suc n) / 2) (suc (suc n) - suc (suc n) / 2) (omega arith))
+    split _ _ (omega arith) (omega arith) (omega arith) (omega arith) (omega arith) (halves-are k s _ (omega arith)) (halves-are k _ _ (omega arith))
   where
     split : (a b : ℕ) → a + b ≡ suc (suc n) → 1 ≤ a → 1 ≤ b → a ≤ b + 1 → b ≤ a + 1 → Halves s a (halvesTo k s a) → Halves (s + a) b (halvesTo k (s + a) b)
         → Halves s (suc (suc n)) (node (halvesTo k s a) (halvesTo k (s + a) b))
