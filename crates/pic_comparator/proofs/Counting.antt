@@ -1,6 +1,6 @@
 -- The n numbers from s on.
 use Prim.Native.Nat.{ℕ, zero, suc, _+_, _<_}
-use mathlib.Core.Path.{_≡_, refl, ap}
+use mathlib.Core.Path.{_≡_, refl, ap, _∙_}
 use mathlib.Core.List.{List, [], _∷_, _++_}
 use native.Mathlib.Nat.{zero-add, add-zero, suc-add}
 use native.Mathlib.Omega.{arith}
@@ -27,7 +27,4 @@ numbers-parts s (suc m) n =
 -- or the first n and the last.
 pub numbers-last : (s n : ℕ) → numbers s (suc n) ≡ numbers s n ++ ((s + n) ∷ [])
 unfolding numbers
-numbers-last s zero = rw (add-zero s)
-numbers-last s (suc n) =
-    let e : suc s + n ≡ s + suc n = omega arith in
-    rw (← e) (ap (λ (l : List ℕ). s ∷ l) (numbers-last (suc s) n))
+numbers-last s n = let e : suc n ≡ n + 1 = omega arith in ap (numbers s) e ∙ numbers-parts s n 1
