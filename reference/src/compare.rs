@@ -19,6 +19,8 @@ const NAMES: [&str; KINDS as usize] = [
     "set mask",
     "clock",
     "error",
+    "look",
+    "commit",
 ];
 
 /// What is compared: a program, and how many inputs of which seed it gets.
@@ -172,6 +174,7 @@ impl Summary {
             ));
         }
         lines.push(format!("chains served: {}", self.all.chains_served));
+        lines.push(format!("looks not 0: {}", self.all.looks_found));
         for (number, times) in self.all.refusals.iter().enumerate().skip(1) {
             if *times > 0 {
                 lines.push(format!("refusal {number}: {times}"));

@@ -21,8 +21,10 @@ pub const RETURN: u32 = 8;
 pub const SET_MASK: u32 = 9;
 pub const CLOCK: u32 = 10;
 pub const ERROR: u32 = 11;
+pub const LOOK: u32 = 12;
+pub const COMMIT: u32 = 13;
 /// The kinds are the numbers below this one.
-pub const KINDS: u32 = 12;
+pub const KINDS: u32 = 14;
 
 /// An event of a known kind whose unused parts are 0.
 #[derive(Clone, Copy, Debug, PartialEq, Eq)]
@@ -39,6 +41,8 @@ pub enum Action {
     SetMask { value: u32 },
     Clock,
     Error { counter: u32 },
+    Look,
+    Commit { source: u32 },
 }
 
 /// Head and value in hexadecimal, the head in eight digits.
@@ -96,6 +100,8 @@ impl Event {
             SET_MASK => only_value(Action::SetMask { value }),
             CLOCK => neither(Action::Clock),
             ERROR => only_address(Action::Error { counter: address }),
+            LOOK => neither(Action::Look),
+            COMMIT => only_address(Action::Commit { source: address }),
             _ => Err(6),
         }
     }

@@ -34,6 +34,7 @@ pub const FAMILIES: &[Family] = &[
     ("nesting, one source", nesting_one_source),
     ("nesting, wandering", nesting_wandering),
     ("chains", chains),
+    ("looks and commits", looks_and_commits),
     ("priority order", priority_order),
     ("mirror", mirror),
     ("fields", fields),
@@ -141,6 +142,7 @@ fn some_weights(random: &mut Random) -> Weights {
         service: random.between(1, 50),
         timer: random.below(12),
         error: random.below(10),
+        look: random.below(10),
         blind: random.below(6),
         boundary: random.below(6),
         refused: random.below(6),
@@ -200,7 +202,8 @@ fn plain_random(random: &mut Random, limits: Limits) -> Vec<u8> {
             LOAD | STORE if random.chance(7, 8) => address & 0x7FFC,
             CSR_READ | CSR_WRITE if random.chance(7, 8) => script.a_csr(),
             ERROR if random.chance(3, 4) => address % 3,
-            SAMPLE..=CSR_WRITE | ERROR => address,
+            COMMIT if random.chance(3, 4) => address % 8,
+            SAMPLE..=CSR_WRITE | ERROR | COMMIT => address,
             _ => 0,
         };
         script.event(kind, address, value);
@@ -271,7 +274,7 @@ fn question_order(random: &mut Random, limits: Limits) -> Vec<u8> {
     let mut script = Script::new(random, limits);
     for _ in 0..random.between(5, 40) {
         let value = random.word();
-        match random.below(12) {
+        match random.below(14) {
             0 => {
                 script.load(random.pick(&[0x8002, 0x8001, 0xFFFF, 0x9003, 0x8000]));
             }
@@ -315,6 +318,13 @@ fn question_order(random: &mut Random, limits: Limits) -> Vec<u8> {
             9 => {
                 script.error(random.pick(&[0, 2, 3, 4, 0x7F0, 0x8001, 0xFFFF]));
             }
+            10 => {
+                // Right or not, with a handler or none, masked or not.
+                script.look();
+                let number = script.a_number();
+                script.commit(number);
+                script.commit(0);
+            }
             _ => {
                 script.serve();
                 script.serve();
@@ -338,7 +348,7 @@ fn rising_ranks(random: &mut Random) -> Vec<Rank> {
 
 /// Tries what a handler must not do, or may do without effect on nesting.
 fn disturb(script: &mut Script, random: &mut Random) {
-    match random.below(16) {
+    match random.below(18) {
         0 => {
             script.open();
         }
@@ -381,7 +391,23 @@ fn disturb(script: &mut Script, random: &mut Random) {
             script.error(random.below(4));
         }
         14 => script.error_step(),
+        15 => {
+            script.look();
+        }
+        16 => {
+            let number = script.a_number();
+            script.commit(number);
+        }
         _ => script.pending_words(),
+    }
+}
+
+/// A chain, or a look and a commit in its place.
+fn chain_or_commit(script: &mut Script, random: &mut Random) {
+    if random.chance(1, 4) {
+        script.look_and_commit();
+    } else {
+        script.chain();
     }
 }
 
@@ -397,17 +423,17 @@ fn chain_variants(script: &mut Script, random: &mut Random) {
         // Its own source still wins.
         0 => {
             script.request(own, top.rank);
-            script.chain();
+            chain_or_commit(script, random);
         }
         1 => {
             script.quiet(own);
             script.request(other, top.rank);
-            script.chain();
+            chain_or_commit(script, random);
         }
         // Both are pending; the lower number wins.
         2 => {
             script.request(other, top.rank);
-            script.chain();
+            chain_or_commit(script, random);
         }
         // Of the same rank, but not above the threshold.
         3 => {
@@ -415,35 +441,35 @@ fn chain_variants(script: &mut Script, random: &mut Random) {
             script.request(other, top.rank);
             let higher = top.rank.higher();
             script.set_threshold(if random.coin() { top.rank } else { higher });
-            script.chain();
+            chain_or_commit(script, random);
             if random.chance(3, 4) {
                 script.set_threshold(top.rank.lower());
-                script.chain();
+                chain_or_commit(script, random);
             }
             script.set_threshold(before);
         }
         // A higher winner.
         4 => {
             script.request(other, top.rank.higher());
-            script.chain();
+            chain_or_commit(script, random);
             script.quiet(other);
         }
         // A lower winner, or none.
         5 => {
             script.quiet(own);
             script.request(other, top.rank.lower());
-            script.chain();
+            chain_or_commit(script, random);
         }
         6 => {
             for source in 1..=script.count().min(20) {
                 script.quiet(source);
             }
-            script.chain();
+            chain_or_commit(script, random);
         }
         _ => {
             script.provoke_chain();
-            script.chain();
-            script.chain();
+            chain_or_commit(script, random);
+            chain_or_commit(script, random);
         }
     }
     if random.coin() {
@@ -556,10 +582,10 @@ fn nesting_one_source(random: &mut Random, limits: Limits) -> Vec<u8> {
         match random.below(3) {
             0 => {
                 script.set_rank(source, top.unwrap_or_default());
-                script.chain();
+                chain_or_commit(&mut script, random);
             }
             1 => {
-                script.chain();
+                chain_or_commit(&mut script, random);
             }
             _ => {}
         }
@@ -587,6 +613,7 @@ fn nesting_wandering(random: &mut Random, limits: Limits) -> Vec<u8> {
         service: 80,
         timer: 4,
         error: 3,
+        look: 6,
         blind: 3,
         boundary: 0,
         refused: 2,
@@ -628,7 +655,7 @@ fn chains(random: &mut Random, limits: Limits) -> Vec<u8> {
             if random.chance(1, 3) {
                 chain_variants(&mut script, random);
             }
-            script.chain();
+            chain_or_commit(&mut script, random);
             if random.chance(1, 3) {
                 script.read_claim();
             }
@@ -639,6 +666,455 @@ fn chains(random: &mut Random, limits: Limits) -> Vec<u8> {
     }
     script.audit();
     finish(script)
+}
+
+/// Looks and commits: at once, after a change, of numbers that no look would answer, and where they
+/// are refused, at every depth.
+fn looks_and_commits(random: &mut Random, limits: Limits) -> Vec<u8> {
+    let mut script = Script::new(random, limits);
+    if random.chance(1, 3) {
+        looks_without_handler(&mut script, random);
+    }
+    start_nesting(&mut script, random);
+    for _ in 0..random.between(3, 9) {
+        match random.below(14) {
+            0 => looks_without_handler(&mut script, random),
+            1 | 2 => unmasked_looks(&mut script, random),
+            3 | 4 => committed_at_once(&mut script, random),
+            5..=7 => stale_looks(&mut script, random),
+            8 | 9 => other_numbers(&mut script, random),
+            10 | 11 => nothing_to_serve(&mut script, random),
+            12 => beside_chains(&mut script, random),
+            _ => committed_nesting(&mut script, random),
+        }
+        if random.chance(1, 3) {
+            script.set_mask(0);
+            script.give_back();
+            script.csr_read(MEICURPL);
+        }
+    }
+    match random.below(4) {
+        0 => script.unwind(),
+        1 => script.audit(),
+        _ => {}
+    }
+    let mut record = script.record();
+    if random.chance(1, 5) {
+        spoil_look(&mut record, random);
+    }
+    bytes_of(&record)
+}
+
+/// Puts in a look or a commit that the reader refuses for an unused part, or an event of a kind
+/// above all kinds.
+fn spoil_look(record: &mut Record, random: &mut Random) {
+    let number = number_of_commit(random);
+    let above = random.pick(&[KINDS, KINDS, KINDS + 1, 0x10C, 0x10D, 0x800D]);
+    let mut event = random.pick(&[Event::new(LOOK, 0, 0), Event::new(COMMIT, number, 0)]);
+    if random.chance(4, 5) {
+        use_unused(&mut event, random);
+    } else {
+        event = Event::new(above, number, 0);
+    }
+    let place = random.below(record.events.len() as u32) as usize;
+    record.events[place] = event;
+}
+
+/// No handler open: both are refused with 17, masked or not, whatever asks.
+fn looks_without_handler(script: &mut Script, random: &mut Random) {
+    script.unwind();
+    for _ in 0..random.between(2, 5) {
+        if random.coin() {
+            let (source, rank) = (script.a_source(), script.a_rank());
+            script.request(source, rank);
+        }
+        script.set_mask(random.below(2));
+        claim_otherwise(script, random);
+        let winner = script.machine.winner().0 as u32;
+        let any = script.a_number();
+        if random.coin() {
+            script.look();
+        } else {
+            script.commit(random.pick(&[winner, winner, 0, any]));
+        }
+        if random.coin() {
+            script.read_claim();
+        }
+    }
+}
+
+/// Ends every request above a rank.
+fn hush_above(script: &mut Script, rank: Rank) {
+    for source in 1..=script.count() {
+        let number = source as usize;
+        if script.machine.eligible(number) && script.machine.source_rank(number) > rank {
+            script.quiet(source);
+        }
+    }
+}
+
+/// The uppermost handler, taken now if there is none, and often if there is; opened or not.
+fn uppermost(script: &mut Script, random: &mut Random) -> Option<Handler> {
+    let opened = script.machine.handlers.last().map(|top| top.opened);
+    if opened.is_none() || random.chance(1, 3) {
+        if opened == Some(false) {
+            script.open();
+        }
+        if opened.is_none() {
+            hush(script);
+        }
+        script.set_mask(1);
+        script.provoke();
+        script.take();
+        if random.chance(2, 3) {
+            script.open();
+        }
+    }
+    script.machine.handlers.last().cloned()
+}
+
+/// The same, so that it may look and commit.
+fn masked_uppermost(script: &mut Script, random: &mut Random) -> Option<Handler> {
+    let top = uppermost(script, random);
+    if script.machine.mask {
+        script.set_mask(0);
+    }
+    top
+}
+
+/// Gives a handler something to go on with, now and then its own source.
+fn offer(script: &mut Script, random: &mut Random, top: &Handler) {
+    hush_above(script, top.rank);
+    if script.machine.threshold_rank() >= top.rank {
+        script.set_threshold(random.rank(0, top.rank.lower().0));
+    }
+    let own = top.source as u32;
+    let source = match random.below(5) {
+        0 => own,
+        _ => script.a_source(),
+    };
+    if source != own && random.coin() {
+        script.quiet(own);
+    }
+    if random.coin() {
+        let (edge, active_low) = (random.coin(), random.chance(1, 3));
+        script.set_gateway(source, edge, active_low);
+    }
+    script.request(source, top.rank);
+    // An edge is enough.
+    if script.machine.source(source as usize).edge && random.coin() {
+        script.set_active(source, false);
+    }
+}
+
+/// Makes what is claimed another than a capture would make it, mostly.
+fn claim_otherwise(script: &mut Script, random: &mut Random) {
+    let (_, rank) = script.machine.winner();
+    let other = (rank.0 + random.between(1, 15) as u8) % 16;
+    script.set_claimed(Rank(other));
+}
+
+/// Handlers opened and not masked: both are refused with 19, right numbers too.
+fn unmasked_looks(script: &mut Script, random: &mut Random) {
+    let top = match uppermost(script, random) {
+        Some(top) => top,
+        None => return,
+    };
+    if random.chance(3, 4) {
+        offer(script, random, &top);
+    }
+    if random.chance(3, 4) {
+        if !top.opened {
+            script.open();
+        }
+        script.set_mask(1);
+    }
+    claim_otherwise(script, random);
+    let (right, own) = (script.machine.chainable(), top.source as u32);
+    for _ in 0..random.between(1, 4) {
+        let any = script.a_number();
+        if random.chance(1, 3) {
+            script.look();
+        } else {
+            script.commit(random.pick(&[right, right, 0, own, any]));
+        }
+    }
+    script.read_claim();
+    if random.coin() {
+        script.set_mask(0);
+        script.commit(right);
+        script.read_claim();
+    }
+}
+
+/// Source after source is looked at and committed.
+fn committed_at_once(script: &mut Script, random: &mut Random) {
+    let top = match masked_uppermost(script, random) {
+        Some(top) => top,
+        None => return,
+    };
+    for _ in 0..random.between(1, 5) {
+        let serving = script.machine.handlers.last().map(|top| top.source as u32);
+        if let Some(source) = serving.filter(|_| random.chance(3, 4)) {
+            script.quiet(source);
+        }
+        offer(script, random, &top);
+        if random.chance(1, 3) {
+            claim_otherwise(script, random);
+        }
+        match random.below(4) {
+            // With no look before.
+            0 => {
+                let right = script.machine.chainable();
+                script.commit(right);
+            }
+            1 => {
+                script.look();
+                script.read_claim();
+                script.look_and_commit();
+            }
+            _ => script.look_and_commit(),
+        }
+        if random.coin() {
+            script.read_claim();
+        }
+    }
+}
+
+/// A look, a change, and a commit of what the look answered, right still or not.
+fn stale_looks(script: &mut Script, random: &mut Random) {
+    for _ in 0..random.between(1, 5) {
+        let top = match masked_uppermost(script, random) {
+            Some(top) => top,
+            None => return,
+        };
+        offer(script, random, &top);
+        if random.chance(1, 3) {
+            claim_otherwise(script, random);
+        }
+        let seen = script.look().answer;
+        if seen == 0 {
+            return;
+        }
+        for _ in 0..random.pick(&[1, 1, 1, 2]) {
+            change_after_look(script, random, seen, &top);
+        }
+        if random.chance(1, 6) {
+            script.look();
+        }
+        script.commit(seen);
+        script.read_claim();
+        if random.chance(1, 4) {
+            script.look_and_commit();
+            script.read_claim();
+        }
+    }
+}
+
+/// What may come between a look and a commit.
+fn change_after_look(script: &mut Script, random: &mut Random, seen: u32, top: &Handler) {
+    let state = script.machine.source(seen as usize).clone();
+    let (lower, rank, higher) = (top.rank.lower(), top.rank, top.rank.higher());
+    let count = script.count();
+    let other = (seen + random.below(count - 1)) % count + 1;
+    match random.below(24) {
+        0 | 1 => script.set_active(seen, false),
+        2 | 3 => script.clear(seen),
+        4 => {
+            // An edge that has gone stays pending until it is cleared, or the type changes.
+            script.set_active(seen, false);
+            if random.coin() {
+                script.set_gateway(seen, !state.edge, state.active_low);
+            } else {
+                script.clear(seen);
+            }
+        }
+        5 => script.set_gateway(seen, !state.edge, state.active_low),
+        6 => script.set_gateway(seen, state.edge, !state.active_low),
+        7 | 8 => script.set_rank(seen, random.pick(&[lower, rank, higher])),
+        9 | 10 => script.set_enable(seen, random.chance(1, 3)),
+        11 | 12 => {
+            let bars = [Rank::LOWEST, lower, rank, higher, Rank::HIGHEST];
+            script.set_threshold(random.pick(&bars));
+        }
+        // Another asks, of a lower number or a higher, of the same rank or not.
+        13 | 14 => script.request(other, rank),
+        15 => script.request(random.between(1, seen), rank),
+        16 => script.request(other, random.pick(&[lower, higher])),
+        17 => script.set_base(),
+        18 => {
+            script.capture();
+            claim_otherwise(script, random);
+        }
+        19 => {
+            script.clock();
+            script.error(random.below(4));
+            script.switch();
+        }
+        20 => {
+            script.chain();
+        }
+        // Unmasked, and sometimes masked again.
+        21 => {
+            script.open();
+            script.set_mask(1);
+            if random.coin() {
+                script.set_mask(0);
+            }
+        }
+        // The handler below, or another above.
+        22 => {
+            script.give_back();
+            script.set_mask(0);
+        }
+        _ => {
+            script.open();
+            script.set_mask(1);
+            script.provoke();
+            script.take();
+        }
+    }
+}
+
+/// Numbers that a look wouldn't answer, beside one that it would.
+fn other_numbers(script: &mut Script, random: &mut Random) {
+    let top = match masked_uppermost(script, random) {
+        Some(top) => top,
+        None => return,
+    };
+    offer(script, random, &top);
+    // Two equals.
+    let equal = script.a_source();
+    script.request(equal, top.rank);
+    let right = script.machine.chainable();
+    for _ in 0..random.between(2, 6) {
+        if random.chance(1, 3) {
+            claim_otherwise(script, random);
+        }
+        let count = script.count();
+        let number = match random.below(12) {
+            0 | 1 => 0,
+            2 => count + random.between(1, 3),
+            3 => random.pick(&[255, 256, 257, 0x7FFF, 0x8000, 0xFFFF]),
+            // By its low bits it would be right.
+            4 => right + 0x100,
+            5 => right + 0x8000,
+            6 => right | 1 << random.between(8, 15),
+            7 => right ^ 1 << random.below(16),
+            8 => random.pick(&[right.wrapping_sub(1) & 0xFFFF, right + 1]),
+            9 => top.source as u32,
+            _ => equal,
+        };
+        script.commit(number);
+        if random.coin() {
+            script.read_claim();
+        }
+    }
+    script.look_and_commit();
+    script.read_claim();
+}
+
+/// A winner that a chain wouldn't serve, or none. Only the chain captures.
+fn nothing_to_serve(script: &mut Script, random: &mut Random) {
+    let top = match masked_uppermost(script, random) {
+        Some(top) => top,
+        None => return,
+    };
+    let source = script.a_source();
+    hush_above(script, top.rank);
+    match random.below(5) {
+        0 => script.request(source, top.rank.higher()),
+        1 => {
+            hush(script);
+            script.request(source, top.rank.lower());
+        }
+        2 | 3 => {
+            script.request(source, top.rank);
+            let bar = random.pick(&[top.rank, top.rank.higher(), Rank::HIGHEST]);
+            script.set_threshold(bar);
+        }
+        _ => hush(script),
+    }
+    let winner = script.machine.winner().0 as u32;
+    for _ in 0..random.between(1, 3) {
+        claim_otherwise(script, random);
+        match random.below(4) {
+            0 => script.look(),
+            1 => script.commit(0),
+            2 => script.commit(top.source as u32),
+            _ => script.commit(winner),
+        };
+        script.read_claim();
+    }
+    if random.coin() {
+        script.chain();
+        script.read_claim();
+    }
+    // What was looked at in vain is served after all.
+    if random.coin() {
+        let answer = script.look().answer;
+        offer(script, random, &top);
+        script.commit(answer);
+        let right = script.machine.chainable();
+        script.commit(right);
+        script.read_claim();
+    }
+    script.set_threshold(random.rank(0, top.rank.lower().0));
+}
+
+/// The same state for a chain, a look and a commit, in any order.
+fn beside_chains(script: &mut Script, random: &mut Random) {
+    let top = match masked_uppermost(script, random) {
+        Some(top) => top,
+        None => return,
+    };
+    offer(script, random, &top);
+    let right = script.machine.chainable();
+    for _ in 0..random.between(3, 6) {
+        claim_otherwise(script, random);
+        match random.below(3) {
+            0 => script.chain(),
+            1 => script.look(),
+            _ => script.commit(right),
+        };
+        script.read_claim();
+    }
+}
+
+/// Handlers of rising ranks, often fifteen, with commits and chains on the way up and down.
+fn committed_nesting(script: &mut Script, random: &mut Random) {
+    settle(script, random);
+    script.lower_bars();
+    for rank in rising_ranks(random) {
+        let source = script.a_source();
+        script.request(source, rank);
+        script.take();
+        // Its own source, or an equal of a lower number.
+        if random.chance(1, 4) {
+            let other = script.a_source();
+            script.request(other, rank);
+            script.look_and_commit();
+        }
+        script.open();
+    }
+    while !script.machine.handlers.is_empty() && !script.full() {
+        script.set_mask(0);
+        let top = script.machine.handlers.last().cloned();
+        if let Some(top) = top.filter(|_| random.chance(1, 3)) {
+            offer(script, random, &top);
+        }
+        match random.below(4) {
+            0 => {
+                script.chain();
+            }
+            1 | 2 => script.look_and_commit(),
+            _ => {}
+        }
+        script.give_back();
+        if random.chance(1, 24) {
+            break;
+        }
+    }
 }
 
 fn priority_order(random: &mut Random, limits: Limits) -> Vec<u8> {
@@ -1264,7 +1740,7 @@ fn current(random: &mut Random, limits: Limits) -> Vec<u8> {
 fn mask(random: &mut Random, limits: Limits) -> Vec<u8> {
     let mut script = Script::new(random, limits);
     for _ in 0..random.between(5, 60) {
-        match random.below(6) {
+        match random.below(7) {
             0 => {
                 script.set_mask(0);
             }
@@ -1289,8 +1765,12 @@ fn mask(random: &mut Random, limits: Limits) -> Vec<u8> {
                 script.set_mask(random.below(3));
             }
             4 => {
-                let kind = random.pick(&[TAKE, OPEN, CHAIN, RETURN]);
+                let kind = random.pick(&[TAKE, OPEN, CHAIN, RETURN, LOOK]);
                 script.event(kind, 0, 0);
+            }
+            5 => {
+                let number = script.a_number();
+                script.commit(number);
             }
             _ => script.serve(),
         }
@@ -2035,14 +2515,15 @@ fn errors_in_handlers(script: &mut Script, random: &mut Random) {
     script.read_all_errors();
 }
 
-/// Puts in an event that the reader refuses: a value beside an address of any sort, or a kind
-/// above.
+/// Puts in an error that the reader refuses for a value beside an address of any sort, or an event
+/// of a kind above all kinds.
 fn spoil_error(record: &mut Record, random: &mut Random) {
     let mut event = Event::new(ERROR, address_of_error(random), 0);
     if random.chance(2, 3) {
         use_unused(&mut event, random);
     } else {
-        event.head += random.pick(&[1, 1, 1, 2, 4, 16, 0x100, 0x8000]) << 16;
+        let above = KINDS - ERROR;
+        event.head += random.pick(&[above, above, above, above + 1, 16, 0x100, 0x8000]) << 16;
     }
     let place = random.below(record.events.len() as u32) as usize;
     record.events[place] = event;
@@ -2203,7 +2684,7 @@ fn too_long(random: &mut Random, limits: Limits) -> Vec<u8> {
 pub(crate) fn bad_kind(random: &mut Random) -> u32 {
     match random.below(5) {
         0 => KINDS,
-        1 => random.pick(&[KINDS + 1, 15, 16, 0x100, 0x8000, 0xFFFF]),
+        1 => random.pick(&[KINDS + 1, 16, 17, 0x100, 0x8000, 0xFFFF]),
         2 => random.below(KINDS) | 1 << random.between(4, 15),
         3 => random.below(KINDS) << 8 | 0x1000,
         _ => random.between(KINDS, 0xFFFF),
@@ -2215,17 +2696,19 @@ fn address_of_error(random: &mut Random) -> u32 {
     random.pick(&[0, 1, 2, 3, 3, 3, 4, 0x7F0, 0xFFFF])
 }
 
-/// An event of any kind, with no address and no value; an error may have an address.
+/// The number of a commit: a source or not.
+fn number_of_commit(random: &mut Random) -> u32 {
+    random.pick(&[0, 1, 2, 3, 255, 256, 0x8001, 0xFFFF])
+}
+
+/// An event of any kind, with no address and no value; an error or a commit may have an address.
 pub(crate) fn bare_event(random: &mut Random) -> Event {
-    let kind = if random.chance(1, 5) {
-        ERROR
-    } else {
-        random.below(KINDS)
-    };
-    let address = if kind == ERROR {
-        address_of_error(random)
-    } else {
-        0
+    let any = random.below(KINDS);
+    let kind = random.pick(&[ERROR, COMMIT, any, any, any, any, any, any]);
+    let address = match kind {
+        ERROR => address_of_error(random),
+        COMMIT => number_of_commit(random),
+        _ => 0,
     };
     Event::new(kind, address, 0)
 }
@@ -2236,9 +2719,9 @@ pub(crate) fn use_unused(event: &mut Event, random: &mut Random) {
     let kind = event.kind();
     let unused_value = matches!(
         kind,
-        LOAD | CSR_READ | TAKE | OPEN | CHAIN | RETURN | CLOCK | ERROR
+        LOAD | CSR_READ | TAKE | OPEN | CHAIN | RETURN | CLOCK | ERROR | LOOK | COMMIT
     );
-    let unused_address = kind >= TAKE && kind != ERROR;
+    let unused_address = kind >= TAKE && kind != ERROR && kind != COMMIT;
     if unused_value && (!unused_address || random.coin()) {
         event.value |= bit << (16 * random.below(2));
     } else if unused_address {
@@ -2377,6 +2860,7 @@ fn noise_of_events(random: &mut Random, limits: Limits) -> Vec<u8> {
                 SAMPLE => address & 7,
                 LOAD | STORE => address & 0x701C,
                 ERROR => address & 3,
+                COMMIT => address & 7,
                 _ if random.coin() => address & 0x000F | random.pick(&[0x07D0, 0x07F0]),
                 _ => address & 0x0407 | 0x0BC8,
             };
@@ -2384,7 +2868,7 @@ fn noise_of_events(random: &mut Random, limits: Limits) -> Vec<u8> {
                 value &= 1;
             }
         }
-        if (TAKE..=CLOCK).contains(&kind) {
+        if matches!(kind, TAKE..=CLOCK | LOOK) {
             address = 0;
         }
         if !matches!(kind, SAMPLE | STORE | CSR_WRITE | SET_MASK) {

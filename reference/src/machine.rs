@@ -1,5 +1,5 @@
-//! The interrupt controller, its handlers, the internal timers, the error counters, and the twelve
-//! events.
+//! The interrupt controller, its handlers, the internal timers, the error counters, and the
+//! fourteen events.
 
 use crate::error_counter::{error_counter, ErrorCounter};
 use crate::event::{Action, Event};
@@ -267,7 +267,7 @@ impl Machine {
         Ok(answer)
     }
 
-    /// Questions 9 to 21, 24 and 25.
+    /// Questions 9 to 21 and 24 to 26.
     fn admit(&self, action: Action) -> Result<(), u32> {
         match action {
             Action::Sample { word, .. } => require(word <= 7, 9),
@@ -291,9 +291,10 @@ impl Machine {
                 let top = self.handlers.last().ok_or(17u32)?;
                 require(!top.opened, 18)
             }
-            Action::Chain | Action::Return => {
-                require(!self.handlers.is_empty(), 17)?;
-                require(!self.mask, 19)
+            Action::Chain | Action::Return | Action::Look => self.admit_masked(),
+            Action::Commit { source } => {
+                self.admit_masked()?;
+                require(source != 0 && source == self.chainable(), 26)
             }
             Action::SetMask { value } => {
                 require(value <= 1, 20)?;
@@ -303,6 +304,12 @@ impl Machine {
             Action::Clock => Ok(()),
             Action::Error { counter } => require(counter <= 2, 25),
         }
+    }
+
+    /// Questions 17 and 19.
+    fn admit_masked(&self) -> Result<(), u32> {
+        require(!self.handlers.is_empty(), 17)?;
+        require(!self.mask, 19)
     }
 
     /// Does an admitted action and gives its answer.
@@ -332,6 +339,8 @@ impl Machine {
             }
             Action::Clock => self.clock(),
             Action::Error { counter } => u32::from(self.error_counters[counter as usize].error()),
+            Action::Look => self.chainable(),
+            Action::Commit { source } => self.commit(source),
         }
     }
 
@@ -488,15 +497,45 @@ impl Machine {
         rank.into()
     }
 
+    /// Whether a chain serves a winner of this rank.
+    fn chains(&self, rank: Rank) -> bool {
+        match self.handlers.last() {
+            Some(top) => top.rank == rank && rank > self.threshold_rank(),
+            None => false,
+        }
+    }
+
     fn chain(&mut self) -> u32 {
         let (source, rank) = self.capture();
-        let above = rank > self.threshold_rank();
-        match self.handlers.last_mut() {
-            Some(top) if top.rank == rank && above => {
-                top.source = source;
-                self.meihap()
-            }
-            _ => 0,
+        if self.chains(rank) {
+            self.replace(source);
+            self.meihap()
+        } else {
+            0
+        }
+    }
+
+    /// The source that a chain would serve, or 0.
+    pub fn chainable(&self) -> u32 {
+        let (source, rank) = self.winner();
+        if self.chains(rank) {
+            source as u32
+        } else {
+            0
+        }
+    }
+
+    /// Serves the source that a look answers.
+    fn commit(&mut self, source: u32) -> u32 {
+        self.capture();
+        self.replace(source as usize);
+        self.meihap()
+    }
+
+    /// The uppermost handler goes on with another source.
+    fn replace(&mut self, source: usize) {
+        if let Some(top) = self.handlers.last_mut() {
+            top.source = source;
         }
     }
 

@@ -1,6 +1,6 @@
 //! The print of a record.
 
-use crate::event::{CHAIN, KINDS};
+use crate::event::{CHAIN, KINDS, LOOK};
 use crate::machine::Machine;
 use crate::record::{self, Limits, Record};
 use std::fmt::Write;
@@ -10,10 +10,12 @@ use std::fmt::Write;
 pub struct Tally {
     pub events: u64,
     /// How often each refusal number was printed.
-    pub refusals: [u64; 26],
+    pub refusals: [u64; 27],
     /// Accepted events by kind.
     pub accepted: [u64; KINDS as usize],
     pub chains_served: u64,
+    /// Looks that didn't answer 0.
+    pub looks_found: u64,
     pub deepest: usize,
 }
 
@@ -27,6 +29,7 @@ impl Tally {
             *sum += more;
         }
         self.chains_served += other.chains_served;
+        self.looks_found += other.looks_found;
         self.deepest = self.deepest.max(other.deepest);
     }
 }
@@ -71,6 +74,7 @@ fn play_record(record: &Record, text: &mut String, tally: &mut Tally) {
         if outcome.refusal == 0 {
             tally.accepted[kind as usize] += 1;
             tally.chains_served += u64::from(kind == CHAIN && outcome.answer != 0);
+            tally.looks_found += u64::from(kind == LOOK && outcome.answer != 0);
         }
         tally.deepest = tally.deepest.max(machine.handlers.len());
     }

@@ -26,6 +26,8 @@ pub struct Weights {
     pub timer: u32,
     /// An error, or an error counter.
     pub error: u32,
+    /// A look or a commit, with what leads to it.
+    pub look: u32,
     /// A service event without a look at the state.
     pub blind: u32,
     /// Offsets and CSR addresses at the edges.
@@ -44,6 +46,7 @@ pub const EVEN: Weights = Weights {
     service: 30,
     timer: 8,
     error: 6,
+    look: 5,
     blind: 4,
     boundary: 4,
     refused: 2,
@@ -187,6 +190,22 @@ impl Script {
 
     pub fn error(&mut self, counter: u32) -> Outcome {
         self.event(ERROR, counter, 0)
+    }
+
+    pub fn look(&mut self) -> Outcome {
+        self.event(LOOK, 0, 0)
+    }
+
+    pub fn commit(&mut self, number: u32) -> Outcome {
+        self.event(COMMIT, number, 0)
+    }
+
+    /// A look, and a commit of the source that it answers.
+    pub fn look_and_commit(&mut self) {
+        let source = self.look().answer;
+        if source > 0 {
+            self.commit(source);
+        }
     }
 
     /// Sometimes sets bits above the kept ones, which the machine must drop.
@@ -477,6 +496,25 @@ impl Script {
         }
     }
 
+    /// A number to commit: what a look would answer, or another that might be mistaken for it.
+    pub fn a_number(&mut self) -> u32 {
+        let right = self.machine.chainable();
+        match self.random.below(12) {
+            0..=3 => right,
+            4 => 0,
+            5 => self.machine.winner().0 as u32,
+            6 => {
+                let top = self.machine.handlers.last();
+                top.map_or(0, |top| top.source as u32)
+            }
+            7 | 8 => self.a_source(),
+            // By its low bits it would be right.
+            9 => right | 1 << self.random.between(8, 15),
+            10 => self.count() + self.random.between(1, 2),
+            _ => self.random.below(0x10000),
+        }
+    }
+
     /// One of the fifteen CSRs, mostly one of the controller's.
     pub fn a_csr(&mut self) -> u32 {
         match self.random.below(8) {
@@ -546,6 +584,49 @@ impl Script {
                 self.error(address);
             }
             _ => self.read_errors(counter),
+        }
+    }
+
+    /// A look or a commit, or both, or one of them where it is refused with 17 or 19.
+    pub fn look_step(&mut self) {
+        let idle = self.machine.handlers.is_empty();
+        if idle || self.machine.mask {
+            match self.random.below(6) {
+                0 => {
+                    self.look();
+                }
+                1 => {
+                    let number = self.a_number();
+                    self.commit(number);
+                }
+                _ if idle => self.serve(),
+                _ => {
+                    self.set_mask(0);
+                }
+            }
+            return;
+        }
+        if self.random.chance(1, 3) {
+            self.provoke_chain();
+        }
+        match self.random.below(6) {
+            0 | 1 => self.look_and_commit(),
+            2 => {
+                self.look();
+            }
+            // Between the two something changes, perhaps what a look would answer.
+            3 => {
+                let answer = self.look().answer;
+                self.legal_store();
+                self.commit(answer);
+            }
+            _ => {
+                let number = self.a_number();
+                self.commit(number);
+            }
+        }
+        if self.random.chance(1, 3) {
+            self.read_claim();
         }
     }
 
@@ -803,7 +884,7 @@ impl Script {
         let no_csrs = [
             0x7D1, 0x7D8, 0x7EF, 0x7F3, 0x17D2, 0x17F2, 0xBC7, 0xBCD, 0x1BCC, 0xFC9,
         ];
-        match self.random.below(15) {
+        match self.random.below(17) {
             0 => {
                 let word = self.random.pick(&[8, 9, 16, 0x100, 0x8000, 0xFFFF]);
                 self.sample(word, value);
@@ -855,6 +936,13 @@ impl Script {
                 let address = self.no_counter();
                 self.error(address);
             }
+            14 => {
+                self.look();
+            }
+            15 => {
+                let number = self.a_number();
+                self.commit(number);
+            }
             _ => {
                 self.set_mask(1);
             }
@@ -888,6 +976,7 @@ impl Script {
             weights.service,
             weights.timer,
             weights.error,
+            weights.look,
             weights.blind,
             weights.boundary,
             weights.refused,
@@ -911,16 +1000,17 @@ impl Script {
             6 => self.serve(),
             7 => self.timer_step(),
             8 => self.error_step(),
-            9 => {
-                let kind = self.random.between(TAKE, SET_MASK);
-                let value = if kind == SET_MASK {
-                    self.random.below(2)
-                } else {
-                    0
+            9 => self.look_step(),
+            10 => {
+                let kinds = [TAKE, OPEN, CHAIN, RETURN, SET_MASK, LOOK, COMMIT];
+                let (address, value) = (self.a_source(), self.random.below(2));
+                match self.random.pick(&kinds) {
+                    SET_MASK => self.set_mask(value),
+                    COMMIT => self.commit(address),
+                    kind => self.event(kind, 0, 0),
                 };
-                self.event(kind, 0, value);
             }
-            10 => self.boundary(),
+            11 => self.boundary(),
             _ => self.refused_step(),
         }
     }
@@ -975,15 +1065,22 @@ impl Script {
         self.read_claim();
     }
 
-    /// Returns from all handlers, with a look at each level.
+    /// Returns from all handlers, from some after a chain or a commit.
     pub fn unwind(&mut self) {
         while !self.machine.handlers.is_empty() && !self.full() {
             if self.machine.mask {
                 self.set_mask(0);
             }
-            if self.random.coin() {
-                self.chain();
-                self.csr_read(MEIHAP);
+            match self.random.below(6) {
+                0 | 1 => {
+                    self.chain();
+                    self.csr_read(MEIHAP);
+                }
+                2 => {
+                    self.look_and_commit();
+                    self.csr_read(MEIHAP);
+                }
+                _ => {}
             }
             self.give_back();
             self.csr_read(MEICURPL);

@@ -36,7 +36,7 @@ impl fmt::Display for Fault {
                 let Refusal { number, place } = refusal;
                 let words = match number {
                     2 => "N is not 2 to 255",
-                    6 => "the kind is not 0 to 11",
+                    6 => "the kind is not 0 to 13",
                     _ => "an address or a value that the kind does not use is not 0",
                 };
                 write!(text, "refused {number} at {place} (line {line}): {words}")

@@ -85,8 +85,13 @@ fn its_own_player_is_alike() {
     assert!(text.contains("\nkind 9 (set mask): accepted "));
     assert!(text.contains("\nkind 10 (clock): accepted "));
     assert!(text.contains("\nkind 11 (error): accepted "));
+    assert!(text.contains("\nkind 12 (look): accepted "));
+    assert!(text.contains("\nkind 13 (commit): accepted "));
     assert!(!text.contains("\nrefusal 22: ") && !text.contains("\nrefusal 23: "));
-    assert!(text.contains("\nrefusal 24: ") && text.contains("\nrefusal 25: "));
+    for number in [24, 25, 26] {
+        assert!(text.contains(&format!("\nrefusal {number}: ")));
+    }
+    assert!(text.contains("\nlooks not 0: "));
 }
 
 #[test]
@@ -106,6 +111,8 @@ fn its_own_compact_player_is_alike() {
     }
     assert!(text.contains("\nkind 10 (clock): accepted "));
     assert!(text.contains("\nkind 11 (error): accepted "));
+    assert!(text.contains("\nkind 12 (look): accepted "));
+    assert!(text.contains("\nkind 13 (commit): accepted "));
     assert!(text.contains("\nrefusal 22: ") && text.contains("\nrefusal 23: "));
 }
 

@@ -809,7 +809,7 @@ fn is_priority(offset: u32, sources: u32) -> bool {
 #[test]
 fn the_opposite_order_with_mirrored_fields_is_the_same_but_for_reads_of_them() {
     let (mut takes, mut reads, mut refusals) = (0, 0, 0);
-    for record in generated_records(13).chain(records("fields", 20)) {
+    for record in generated_records(13).chain(records("fields", 40)) {
         let sources = record.sources;
         let (mut machine, _) = Machine::power_on(sources);
         let mut mirror = machine.clone();
@@ -869,7 +869,7 @@ fn nesting_holds_for_lists_with_switches() {
                     told.push(Told { source, rank });
                     deep[usize::from(before.priord)] += u32::from(told.len() >= 2);
                 }
-                CHAIN if outcome.answer != 0 => {
+                CHAIN | COMMIT if outcome.answer != 0 => {
                     let rank = before.source_rank(source);
                     let top = told.last_mut().unwrap();
                     assert_eq!(rank, top.rank);
@@ -998,7 +998,8 @@ fn meet(record: &Record, met: &mut Met) {
         met.count("open in 1", open);
         met.count("return in 1", kind == RETURN && accepted && reverse);
 
-        if kind == CSR_WRITE && address == MEICPCT || kind == CHAIN && accepted || took {
+        let captured = accepted && matches!(kind, TAKE | CHAIN | COMMIT);
+        if kind == CSR_WRITE && address == MEICPCT || captured {
             let none = machine.claim == 0;
             claimed_in = Some((reverse, none));
         } else if kind == CSR_WRITE && address == MEICIDPL {
@@ -1015,7 +1016,7 @@ fn meet(record: &Record, met: &mut Met) {
         met.count("fields read in 1", read && reverse && outcome.answer < 15);
         met.count("fields read by a switch alone", read && !written);
 
-        let of_handler = (OPEN..=RETURN).contains(&kind) && accepted;
+        let of_handler = matches!(kind, OPEN..=RETURN | COMMIT) && accepted;
         written |= writes_field(event, record.sources) && accepted || of_handler;
     }
     let (level, margin) = (machine.current_rank(), machine.margin());

@@ -3,7 +3,7 @@
 mod common;
 
 use common::*;
-use reference::event::CLOCK;
+use reference::event::{CLOCK, COMMIT, LOOK};
 use reference::machine::*;
 use reference::rank::{Field, Rank};
 use reference::record::{self, lay_out, Refusal, BOARD};
@@ -73,9 +73,10 @@ fn records_1_to_5() {
 fn records_6_and_7_with_their_places() {
     let good = 0x0005_0000;
     for (head, value, number) in [
-        (0x000C_0000, 0, 6),
         (0x000E_0000, 0, 6),
         (0x000E_0001, 1, 6),
+        (0x000F_0000, 0, 6),
+        (0x0010_0000, 0, 6),
         (0xFFFF_0000, 0, 6),
         (0x0001_0000, 1, 7),
         (0x0003_0000, 1, 7),
@@ -95,7 +96,14 @@ fn records_6_and_7_with_their_places() {
         (0x000B_0000, 1, 7),
         (0x000B_0003, 1, 7),
         (0x000B_FFFF, 0x8000_0000, 7),
-        (0x000C_0003, 1, 6),
+        (0x000C_0001, 0, 7),
+        (0x000C_8000, 0, 7),
+        (0x000C_0000, 1, 7),
+        (0x000C_0000, 0x8000_0000, 7),
+        (0x000D_0000, 1, 7),
+        (0x000D_0001, 1, 7),
+        (0x000D_FFFF, 0x8000_0000, 7),
+        (0x000E_0003, 1, 6),
     ] {
         let (heads, values) = ([good, head, 0xFFFF_0000], [0, value, 1]);
         assert_eq!(reading(&lay_out(3, 2, &heads, &values)), Some((number, 1)));
@@ -153,6 +161,11 @@ fn event_8_comes_first() {
         // Before 6, 7 and 25.
         assert_eq!(machine.error(3), refused(8));
         assert_eq!(machine.act(CLOCK, 1, 1), refused(8));
+        // Before 17, 19 and 26.
+        assert_eq!(machine.look(), refused(8));
+        assert_eq!(machine.commit(0), refused(8));
+        assert_eq!(machine.act(LOOK, 1, 0), refused(8));
+        assert_eq!(machine.act(COMMIT, 1, 1), refused(8));
         assert_eq!(machine.act(14, 0, 0), refused(8));
         assert_eq!(machine.query_margin(), Err(8));
     }
@@ -198,10 +211,14 @@ fn events_15_to_21() {
         assert_eq!(machine.open(), refused(17));
         assert_eq!(machine.chain(), refused(17));
         assert_eq!(machine.give_back(), refused(17));
+        assert_eq!(machine.look(), refused(17));
+        assert_eq!(machine.commit(0), refused(17));
     }
     assert_eq!(opened().open(), refused(18));
     assert_eq!(opened().chain(), refused(19));
     assert_eq!(opened().give_back(), refused(19));
+    assert_eq!(opened().look(), refused(19));
+    assert_eq!(opened().commit(0), refused(19));
     for value in [2, 3, u32::MAX] {
         assert_eq!(machine.set_mask(value), refused(20));
         assert_eq!(taken().set_mask(value), refused(20));
@@ -234,6 +251,19 @@ fn event_25() {
         }
         for address in [3, 4, 0x7F0, 0x8000, 0xFFFF] {
             assert_eq!(machine.error(address), refused(25));
+        }
+    }
+}
+
+#[test]
+fn event_26() {
+    let mut masked = opened();
+    masked.set_mask(0);
+    for machine in [taken(), masked] {
+        // Source 1 is still pending.
+        assert_eq!(machine.clone().commit(1), answer(4));
+        for number in [0, 2, 4, 5, 0x101, 0x8001, 0xFFFF] {
+            assert_eq!(machine.clone().commit(number), refused(26));
         }
     }
 }

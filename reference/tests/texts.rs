@@ -215,11 +215,13 @@ fn questions_name_the_place_and_the_line() {
         refused(format!("{sources}\n0:0\n").as_bytes(), &two(1));
     }
     refused(b"# four\n\n1\nf0000:0\n", &two(3));
-    let six = |place, line| format!("refused 6 at {place} (line {line}): the kind is not 0 to 11");
+    let six = |place, line| format!("refused 6 at {place} (line {line}): the kind is not 0 to 13");
     accepted(b"4\na0000:0\n", 4, &[(0x000A_0000, 0)]);
     accepted(b"4\nb0003:0\n", 4, &[(0x000B_0003, 0)]);
-    refused(b"4\nc0000:0\n", &six(0, 2));
+    accepted(b"4\nc0000:0\n", 4, &[(0x000C_0000, 0)]);
+    accepted(b"4\nd0105:0\n", 4, &[(0x000D_0105, 0)]);
     refused(b"4\ne0000:0\n", &six(0, 2));
+    refused(b"4\nf0000:0\n", &six(0, 2));
     refused(b"4\n0:0\n\n# unknown\nffff0001:1\n50000:1\n", &six(1, 5));
     let words = "an address or a value that the kind does not use is not 0";
     let seven = |place, line| format!("refused 7 at {place} (line {line}): {words}");
@@ -228,6 +230,9 @@ fn questions_name_the_place_and_the_line() {
     refused(b"4\na0001:0\n", &seven(0, 2));
     refused(b"4\n0:0\na0000:1\n", &seven(1, 3));
     refused(b"4\nb0003:1\n", &seven(0, 2));
+    refused(b"4\nc0001:0\n", &seven(0, 2));
+    refused(b"4\nc0000:1\n", &seven(0, 2));
+    refused(b"4\nd0001:1\n", &seven(0, 2));
 }
 
 #[test]

@@ -505,7 +505,7 @@ fn compare_while_playing(record: &Record, random: &mut Random) -> u64 {
 }
 
 /// Families of which no record is accepted, or hardly one.
-const REFUSED: [&str; 9] = [
+const REFUSED: [&str; 10] = [
     "truncated",
     "extended",
     "wrong count",
@@ -515,6 +515,7 @@ const REFUSED: [&str; 9] = [
     "too long",
     "unknown kind",
     "kind and unused parts",
+    "several faults",
 ];
 
 #[test]
@@ -641,7 +642,7 @@ fn shown_capture(event: Event, outcome: Outcome, next: Option<&Event>) -> Option
     match event.kind() {
         _ if outcome.refusal != 0 => None,
         TAKE => Some("taken"),
-        CHAIN if outcome.answer != 0 => Some("chained"),
+        CHAIN | COMMIT if outcome.answer != 0 => Some("chained"),
         CHAIN if read_next => Some("not chained"),
         CSR_WRITE if event.address() == MEICPCT && read_next => Some("captured"),
         _ => None,

@@ -26,8 +26,8 @@ use Rattle.counters.specs.Whole as whole
 use Rattle.counters.specs.Csrs as counters
 use Rattle.handlers_stack.specs.Stacks.{handlerSound, belowOf, handlersSound, levelOf}
 use Rattle.handlers.specs.Machines.{powerOnOf, soundOf}
-use Rattle.handlers.specs.Service.{sampleEvent, loadEvent, storeEvent, csrReadEvent, controllerWrite, csrWriteEvent, takeEvent, openEvent, chainEvent, returnEvent, setMaskEvent, clockEvent, errorEvent, eventOf, soundStepOf}
-use Rattle.handlers.specs.Calls.{clockOf, errorOf, stepOf, marginAnswer}
+use Rattle.handlers.specs.Service.{sampleEvent, loadEvent, storeEvent, csrReadEvent, controllerWrite, csrWriteEvent, takeEvent, openEvent, chainEvent, returnEvent, setMaskEvent, clockEvent, errorEvent, lookEvent, commitEvent, eventOf, soundStepOf}
+use Rattle.handlers.specs.Calls.{clockOf, errorOf, lookOf, commitOf, stepOf, marginAnswer}
 use Rattle.pic_laws.proofs.Sources.{field-15-never}
 use Rattle.handlers_laws.proofs.Ranks.{field-kept, meipl-stored}
 use Rattle.claims.specs.Play.{endOf, eachOf}
@@ -37,11 +37,11 @@ use Rattle.record.specs.Record.{recordOf}
 use Rattle.record.specs.Questions.{readVerdict, walkFrom}
 use Rattle.digits.specs.Ascii.{ascii}
 use Rattle.playback.specs.Print.{eventLines, printOf, compactPrintOf, printWithin}
-use Rattle.bench_points.specs.Points.{Points, Plays, Holds, after, handler, listing-text, fifteen-up, fifteen-down, fifteen-handlers, three-fields, high-first, low-first, both-back, with-meicurpl, erring-up, erring-down}
+use Rattle.bench_points.specs.Points.{Points, Plays, Holds, after, handler, listing-text, fifteen-up, fifteen-down, fifteen-handlers, three-fields, high-first, low-first, both-back, with-meicurpl, erring-up, erring-down, _answers_, csrRead, commit, meihap, stale}
 
 -- To unfold this is to unfold every rule.
 rules : Unit {0}
-unfolding printWithin eventLines ascii digitsTo readVerdict walkFrom wordsOf bytesOfWords endOf eachOf stepOf soundStepOf eventOf sampleEvent loadEvent storeEvent csrReadEvent controllerWrite csrWriteEvent takeEvent openEvent chainEvent returnEvent setMaskEvent clockEvent clockOf errorEvent errorOf marginAnswer soundOf handlersSound handlerSound belowOf levelOf powerOnOf shapeOf calls.powerOnOf calls.sourceCount calls.priorityOrder calls.currentRank calls.setCurrent calls.meihapOf calls.captureOf calls.lookOf registers.sampleOf registers.loadOf registers.storeOf csrs.csrReadOf csrs.csrWriteOf sound.soundOf sound.sourcesSound sourceSound isPending isEligible entryOf betterOf winnerTo passing halvesTo higherOf differenceOf joinOf wordTo placesTo sourceRegister pageRegister offsetRefusal readOf writtenOf csrAt csrValue csrWritten mirror closedForm timers.timerAt timers.withTimer timers.timerSound timers.nextCount timers.clockOf errors.heldOf errors.errorSound errors.counted errors.selectedBit errors.errorAt errors.withError errors.errorsSound errors.errorOf whole.resetCounters whole.soundOf counters.csrOf counters.csrAt counters.csrValue counters.csrWritten
+unfolding printWithin eventLines ascii digitsTo readVerdict walkFrom wordsOf bytesOfWords endOf eachOf stepOf soundStepOf eventOf sampleEvent loadEvent storeEvent csrReadEvent controllerWrite csrWriteEvent takeEvent openEvent chainEvent returnEvent setMaskEvent clockEvent clockOf errorEvent errorOf lookEvent lookOf commitEvent commitOf marginAnswer soundOf handlersSound handlerSound belowOf levelOf powerOnOf shapeOf calls.powerOnOf calls.sourceCount calls.priorityOrder calls.currentRank calls.setCurrent calls.meihapOf calls.captureOf calls.lookOf registers.sampleOf registers.loadOf registers.storeOf csrs.csrReadOf csrs.csrWriteOf sound.soundOf sound.sourcesSound sourceSound isPending isEligible entryOf betterOf winnerTo passing halvesTo higherOf differenceOf joinOf wordTo placesTo sourceRegister pageRegister offsetRefusal readOf writtenOf csrAt csrValue csrWritten mirror closedForm timers.timerAt timers.withTimer timers.timerSound timers.nextCount timers.clockOf errors.heldOf errors.errorSound errors.counted errors.selectedBit errors.errorAt errors.withError errors.errorsSound errors.errorOf whole.resetCounters whole.soundOf counters.csrOf counters.csrAt counters.csrValue counters.csrWritten
 rules = tt
 
 -- The whole print and the long list apart from the table, since what one declaration may compute is limited.
@@ -49,15 +49,15 @@ listing-print : printOf (recordOf listingSources listingHeads listingValues) ≡
 unfolding rules
 listing-print = refl
 
-fifteen : Plays 16 (fifteen-up ++ fifteen-down)
+fifteen : Plays 17 (fifteen-up ++ fifteen-down)
 unfolding rules
 fifteen = (refl, refl)
 
-fifteen-up-held : Holds (after 16 fifteen-up) 15 fifteen-handlers 15
+fifteen-up-held : Holds (after 17 fifteen-up) 15 fifteen-handlers 15
 unfolding rules
 fifteen-up-held = refl
 
-fifteen-down-held : Holds (after 16 (fifteen-up ++ fifteen-down)) 0 [] 0
+fifteen-down-held : Holds (after 17 (fifteen-up ++ fifteen-down)) 0 [] 0
 unfolding rules
 fifteen-down-held = refl
 
@@ -84,6 +84,10 @@ fields-sound = refl
 fields-unsound : soundOf (with-meicurpl (after 4 (three-fields ++ high-first ++ low-first)) 14) ≡ false
 unfolding rules
 fields-unsound = refl
+
+commits-stale : Plays 4 (stale ++ (commit 2 answers 8 ∷ csrRead meihap answers 8 ∷ []))
+unfolding rules
+commits-stale = (refl, refl)
 
 errors-nested : Plays 4 (erring-up ++ erring-down)
 unfolding rules
@@ -136,6 +140,10 @@ points =
       k10-held = refl;
       k10-served = (refl, refl);
       k10-served-held = refl;
+      k10-looked = (refl, refl);
+      k10-looked-held = refl;
+      k10-committed = (refl, refl);
+      k10-committed-held = refl;
       margin-most = refl;
       margin-at-threshold = refl;
       margin-at-current = refl;
@@ -153,6 +161,7 @@ points =
       fifteen = fifteen;
       fifteen-up-held = fifteen-up-held;
       fifteen-down-held = fifteen-down-held;
+      fifteen-chainings = refl;
       timers-reset = (refl, refl);
       timers-at-bound = (refl, refl);
       timers-disabled = (refl, refl);
@@ -208,4 +217,17 @@ points =
       errors-nested = errors-nested;
       errors-nested-up = refl;
       errors-nested-down = refl;
+      commits-stale = commits-stale;
+      commits-wrong = (refl, refl);
+      commits-wrong-held = refl;
+      commits-lower = (refl, refl);
+      commits-higher = (refl, refl);
+      commits-questions = (refl, refl);
+      commits-own = (refl, refl);
+      commits-equals = (refl, refl);
+      commits-read = refl;
+      commits-read-7 = refl;
+      commits-print = refl;
+      looks-unsound = refl;
+      commits-unsound = refl;
     }

@@ -1,11 +1,11 @@
 -- Document 01, "Bench points K1 to K10", the ends of the margin, the listing of "The player", a list that nests fifteen handlers, and the timers, the mirror, the
--- compact reader, the fields, the error counters and the comparator tree of document 02: one table about the rules. A point is a list of events played from power-on,
+-- compact reader, the fields, the error counters, the comparator tree, looks and commits of document 02: one table about the rules. A point is a list of events played from power-on,
 -- each event with what it must answer or be refused with, and what the machine must hold after it, or what passes at the root of a tree over its sources; or bytes, and
 -- what a reader or a player must answer.
 use Prim.Native.Nat.{ℕ, zero, suc, _+_, _*_, _%_, _^_, _≤_}
 use Prim.Native.String.{String}
 use mathlib.Core.Path.{_≡_}
-use mathlib.Core.Bool.{true, false}
+use mathlib.Core.Bool.{Bool, true, false, cond}
 use mathlib.Core.List.{List, [], _∷_, _++_}
 use lib.ListN.{take as first}
 use lib.IntN.{ℤ, pos, negsuc}
@@ -27,9 +27,11 @@ use Rattle.handlers_stack.specs.declared.Handler.{Handler}
 use Rattle.handlers.specs.declared.Machine.{Machine}
 use Rattle.handlers.specs.Fields.{withController, withCounters}
 use Rattle.handlers.specs.Machines.{soundOf, powerOnOf}
-use Rattle.handlers.specs.Calls.{storeOf, clockOf, errorOf, stepOf, marginAnswer}
+use Rattle.handlers.specs.Calls.{storeOf, clockOf, errorOf, lookOf, commitOf, stepOf, marginAnswer}
 use Rattle.handlers.specs.Errors.{withCounter}
+use Rattle.nesting.specs.Claim.{Class, isTaking, isChaining, isReturn, isOther}
 use Rattle.claims.specs.Play.{endOf, answersOf, refusalsOf}
+use Rattle.claims.specs.Nested.{classBy}
 use Rattle.record.specs.declared.Verdict.{Verdict}
 use Rattle.record.specs.Record.{recordOf}
 use Rattle.record.specs.Questions.{verdict, noRefusal, boardVerdict, compactVerdict}
@@ -58,7 +60,8 @@ infix 80 _refused_
 abbrev pub _refused_ : Row → ℕ → Row
 e refused q = record { head = e .head; value = e .value; answer = 0; refusal = q }
 
--- The twelve kinds. Sample: a word number and its bits. Load and store: an offset. CSR read and write: a CSR. Set mask: the value. Error: the counter.
+-- The fourteen kinds. Sample: a word number and its bits. Load and store: an offset. CSR read and write: a CSR. Set mask: the value. Error: the counter. Commit: the
+-- source.
 abbrev pub sample : ℕ → ℕ → Row
 sample x v = event 0 x v
 
@@ -94,6 +97,12 @@ clock = event 10 0 0
 
 abbrev pub error : ℕ → Row
 error i = event 11 i 0
+
+abbrev pub look : Row
+look = event 12 0 0
+
+abbrev pub commit : ℕ → Row
+commit s = event 13 s 0
 
 -- Offsets of registers, of source s or of word x, and the CSRs.
 abbrev pub meipl : ℕ → ℕ
@@ -162,6 +171,17 @@ answerColumn (e ∷ es) = e .answer ∷ answerColumn es
 abbrev pub refusalColumn : List Row → List ℕ
 refusalColumn [] = []
 refusalColumn (e ∷ es) = e .refusal ∷ refusalColumn es
+
+-- The rows of a list that are chainings in demand 3.
+abbrev pub isOne : Class → Bool
+isOne isTaking = false
+isOne isChaining = true
+isOne isReturn = false
+isOne isOther = false
+
+abbrev pub chainings : List Row → List Row
+chainings [] = []
+chainings (e ∷ es) = cond (isOne (classBy (kindOf (e .head)) (record { answer = e .answer; refusal = e .refusal }))) (e ∷ chainings es) (chainings es)
 
 -- The machine that power-on with N hands back.
 abbrev pub start : ℕ → Machine
@@ -249,6 +269,13 @@ both-15 =
 abbrev pub served-15 : List Row
 served-15 = both-15 ++ (mask 0 ∷ chain answers 8 ∷ [])
 
+-- Or it looks, and commits source 2.
+abbrev pub looked-15 : List Row
+looked-15 = both-15 ++ (mask 0 ∷ look answers 2 ∷ [])
+
+abbrev pub committed-15 : List Row
+committed-15 = looked-15 ++ (commit 2 answers 8 ∷ [])
+
 -- Source 1 enabled at rank 15, its line up, with this threshold and this current rank.
 abbrev pub highest : ℕ → ℕ → List Row
 highest t c = store (meie 1) 1 ∷ store (meipl 1) 15 ∷ sample 0 2 ∷ over t c
@@ -279,16 +306,21 @@ nest s a = sample 0 (2 ^ s) ∷ take answers a ∷ open-handler answers s ∷ []
 abbrev pub serve : List Row
 serve = sample 0 (2 ^ 16) ∷ take refused 16 ∷ mask 0 ∷ chain answers 64 ∷ mask 1 ∷ []
 
+-- The line of source 17 alone up, of the rank of handler 12, which looks and commits it.
+abbrev pub serve-looked : List Row
+serve-looked = sample 0 (2 ^ 17) ∷ take refused 16 ∷ mask 0 ∷ look answers 17 ∷ commit 17 answers 68 ∷ mask 1 ∷ []
+
 -- All n handlers return, one after the other; each return answers how many are still open.
 abbrev pub leave : ℕ → List Row
 leave zero = []
 leave (suc n) = mask 0 ∷ return answers n ∷ leave n
 
--- Sources 1 to 15 nest, with a chaining by the seventh handler.
+-- Sources 1 to 15 nest, with a chaining by the seventh handler, and one by a commit of the twelfth.
 abbrev pub fifteen-up : List Row
 fifteen-up =
     ranked 15
     ++ enabled 16 7
+    ++ enabled 17 12
     ++ (mask 1 ∷ [])
     ++ nest 1 4
     ++ nest 2 8
@@ -303,6 +335,7 @@ fifteen-up =
     ++ nest 10 40
     ++ nest 11 44
     ++ nest 12 48
+    ++ serve-looked
     ++ nest 13 52
     ++ nest 14 56
     ++ nest 15 60
@@ -325,7 +358,7 @@ fifteen-handlers =
     ∷ handler 9 9 8 1
     ∷ handler 10 10 9 1
     ∷ handler 11 11 10 1
-    ∷ handler 12 12 11 1
+    ∷ handler 17 12 11 1
     ∷ handler 13 13 12 1
     ∷ handler 14 14 13 1
     ∷ handler 15 15 14 1
@@ -503,6 +536,51 @@ erring-down = error 2 answers 1 ∷ return answers 1 ∷ error 1 ∷ mask 0 ∷ 
 abbrev pub erring : ℕ → ℕ → Machine
 erring t n = withCounter (start 4) 1 (counterOf t n)
 
+-- A look that has gone stale: between it and the commit the line of source 2 falls, its rank changes, the threshold reaches it, and it is disabled. Each time the commit is
+-- refused; put back, a look answers 2 again. No look and no refused commit captured: meihap is still source 1's.
+abbrev pub stale : List Row
+stale =
+    looked-15
+    ++ (sample 0 0 ∷ commit 2 refused 26 ∷ look answers 0 ∷ sample 0 4 ∷ look answers 2 ∷ [])
+    ++ (store (meipl 2) 14 ∷ commit 2 refused 26 ∷ look answers 0 ∷ store (meipl 2) 15 ∷ look answers 2 ∷ [])
+    ++ (csrWrite meipt 15 ∷ commit 2 refused 26 ∷ look answers 0 ∷ csrWrite meipt 14 ∷ look answers 2 ∷ [])
+    ++ (store (meie 2) 0 ∷ commit 2 refused 26 ∷ look answers 0 ∷ store (meie 2) 1 ∷ look answers 2 ∷ [])
+    ++ (csrRead meihap answers 4 ∷ [])
+
+-- Wrong numbers where a look answers 2: 0, the handler's own, another source, none of N 4, and three of which some bits are 2.
+abbrev pub wrong : List Row
+wrong =
+    both-15
+    ++ (mask 0
+    ∷ commit 0 refused 26
+    ∷ commit 1 refused 26
+    ∷ commit 3 refused 26
+    ∷ commit 5 refused 26
+    ∷ commit 0x102 refused 26
+    ∷ commit 0x8002 refused 26
+    ∷ commit 0xFFFF refused 26
+    ∷ csrRead meihap answers 4
+    ∷ [])
+
+-- A handler of rank 5, with a winner of another rank: no chain would serve it, so a look answers 0 and a commit of it is refused. The chain captures it all the same.
+abbrev pub other-rank : ℕ → List Row
+other-rank r =
+    store (meie 1) 1
+    ∷ store (meie 2) 1
+    ∷ store (meipl 1) 5
+    ∷ sample 0 2
+    ∷ mask 1
+    ∷ take answers 4
+    ∷ sample 0 4
+    ∷ store (meipl 2) r
+    ∷ look answers 0
+    ∷ commit 2 refused 26
+    ∷ commit 0 refused 26
+    ∷ csrRead meihap answers 4
+    ∷ chain answers 0
+    ∷ csrRead meihap answers 8
+    ∷ []
+
 -- The table.
 pub record Points : Type 0 where
   -- K1, as document 02, No. 4, changes it: "field 5, priord set, reads 5, rank 10".
@@ -588,6 +666,11 @@ pub record Points : Type 0 where
   -- masked, chain serves it.
   pub k10-served : Plays 4 (served-15 ++ (return answers 0 ∷ []))
   pub k10-served-held : Holds (after 4 served-15) 1 (handler 2 15 0 1 ∷ []) 15
+  -- By look and commit: the look leaves handler and claim as they were, and the commit serves it as the chain does.
+  pub k10-looked : Plays 4 (looked-15 ++ (csrRead meihap answers 4 ∷ []))
+  pub k10-looked-held : Holds (after 4 looked-15) 1 (handler 1 15 0 1 ∷ []) 15
+  pub k10-committed : Plays 4 (committed-15 ++ (csrRead meihap answers 8 ∷ return answers 0 ∷ []))
+  pub k10-committed-held : Holds (after 4 committed-15) 1 (handler 2 15 0 1 ∷ []) 15
   -- "A signed number from −15 to 15", exact at zero and at both ends: the highest winner over rank 0, the same over threshold 15 and over current rank 15,
   -- and no winner under each of the two.
   pub margin-most : HasMargin (after 4 (highest 0 0)) (pos 15)
@@ -609,10 +692,11 @@ pub record Points : Type 0 where
   pub print-of-nothing : printOf [] ≡ ascii "refused 1 at 0\n"
   -- A margin below 0 is printed with its sign.
   pub print-below : endLine (after 4 (over 0 15)) ≡ ascii "end open 0 level 15 margin -15\n"
-  -- Fifteen handlers nest, the seventh serves a second source, and all return.
-  pub fifteen : Plays 16 (fifteen-up ++ fifteen-down)
-  pub fifteen-up-held : Holds (after 16 fifteen-up) 15 fifteen-handlers 15
-  pub fifteen-down-held : Holds (after 16 (fifteen-up ++ fifteen-down)) 0 [] 0
+  -- Fifteen handlers nest, the seventh and the twelfth serve a second source, and all return. Two events of the list are chainings: a chain and a commit.
+  pub fifteen : Plays 17 (fifteen-up ++ fifteen-down)
+  pub fifteen-up-held : Holds (after 17 fifteen-up) 15 fifteen-handlers 15
+  pub fifteen-down-held : Holds (after 17 (fifteen-up ++ fifteen-down)) 0 [] 0
+  pub fifteen-chainings : chainings (fifteen-up ++ fifteen-down) ≡ chain answers 64 ∷ commit 17 answers 68 ∷ []
   -- Document 02, No. 1. The timers at power-on; control reads back its three bits, and the first address on either side of the six is refused.
   pub timers-reset :
       Plays 4
@@ -695,7 +779,7 @@ pub record Points : Type 0 where
       ∷ []
   -- Fewer than 8 bytes; and an event of no kind, where the big reader's number and place are given.
   pub compact-1 : compactVerdict (0 ∷ 0 ∷ 0 ∷ 0 ∷ 64 ∷ 0 ∷ 0 ∷ []) ≡ verdict 1 0
-  pub compact-6 : compactVerdict (recordOf 63 (0x50000 ∷ 0xC0000 ∷ []) (0 ∷ 0 ∷ [])) ≡ verdict 6 1
+  pub compact-6 : compactVerdict (recordOf 63 (0x50000 ∷ 0xE0000 ∷ []) (0 ∷ 0 ∷ [])) ≡ verdict 6 1
   -- "A record that both accept prints the same lines on both."
   pub compact-listing : compactPrintOf (recordOf listingSources listingHeads listingValues) ≡ ascii listing-text
   pub compact-print-22 : compactPrintOf (sizes 0 64) ≡ ascii "refused 22 at 0\n"
@@ -768,7 +852,7 @@ pub record Points : Type 0 where
   pub errors-wrap-0 : Plays 4 (csrWrite (ect 0) 0x07FFFFFF ∷ counts-to 0 0 0x00000000 ++ counts-to 0 1 0x00000001)
   pub errors-26 : Plays 4 (csrWrite (ect 1) 0xD3FFFFFE ∷ counts-to 1 0 0xD3FFFFFF ++ counts-to 1 1 0xD4000000 ++ counts-to 1 1 0xD4000001)
   pub errors-25 : Plays 4 (csrWrite (ect 1) 0xCBFFFFFE ∷ counts-to 1 1 0xCBFFFFFF ++ counts-to 1 0 0xCC000000)
-  -- "25 when the address is above 2, after question 7"; its value is unused; there is no kind after it.
+  -- "25 when the address is above 2, after question 7"; its value is unused; there is no kind 14.
   pub errors-questions :
       Plays 4
       (error 2 answers 1
@@ -776,8 +860,8 @@ pub record Points : Type 0 where
       ∷ error 0xFFFF refused 25
       ∷ event 11 3 1 refused 7
       ∷ event 11 0 0xFFFFFFFF refused 7
-      ∷ event 12 0 0 refused 6
-      ∷ event 12 3 1 refused 6
+      ∷ event 14 0 0 refused 6
+      ∷ event 14 3 1 refused 6
       ∷ ects 0 0 1)
   -- "The record's reader and writer don't check it": a record with such addresses is read and played; 6 and 7 are asked.
   pub errors-read : boardVerdict (recordOf 4 (0xB0003 ∷ 0xBFFFF ∷ []) (0 ∷ 0 ∷ [])) ≡ noRefusal
@@ -790,3 +874,30 @@ pub record Points : Type 0 where
   pub errors-nested : Plays 4 (erring-up ++ erring-down)
   pub errors-nested-up : Holds (after 4 erring-up) 2 (handler 1 1 0 1 ∷ handler 3 2 1 1 ∷ []) 2
   pub errors-nested-down : Holds (after 4 (erring-up ++ erring-down)) 0 [] 0
+  -- Document 02, No. 7. "26 when the committed number is 0 or isn't what a look would answer": a look that has gone stale, and wrong numbers. A commit of the right one is
+  -- accepted then, with no look just before it.
+  pub commits-stale : Plays 4 (stale ++ (commit 2 answers 8 ∷ csrRead meihap answers 8 ∷ []))
+  pub commits-wrong : Plays 4 (wrong ++ (commit 2 answers 8 ∷ csrRead meihap answers 8 ∷ []))
+  pub commits-wrong-held : Holds (after 4 wrong) 1 (handler 1 15 0 1 ∷ []) 15
+  pub commits-lower : Plays 4 (other-rank 4)
+  pub commits-higher : Plays 4 (other-rank 6)
+  -- "Both come under questions 17 and 19", 7 before and 26 after them; there is no kind 14.
+  pub commits-questions :
+      Plays 4
+      ((look refused 17 ∷ commit 0 refused 17 ∷ event 12 1 0 refused 7 ∷ event 12 0 1 refused 7 ∷ event 13 2 1 refused 7 ∷ event 14 0 0 refused 6 ∷ [])
+      ++ both-15
+      ++ (look refused 19 ∷ commit 2 refused 19 ∷ commit 0 refused 19 ∷ mask 0 ∷ event 13 2 1 refused 7 ∷ commit 2 answers 8 ∷ []))
+  -- An unopened handler, and its own source: the look answers it, and the commit serves it again. Base is that of the commit.
+  pub commits-own : Plays 4 (threshold 4 ++ (take answers 8 ∷ look answers 2 ∷ csrWrite meivt 0x400 ∷ commit 2 answers 0x408 ∷ open-handler answers 5 ∷ []))
+  -- "The source of equals the lowest number": of sources 2 and 3 the look answers 2, and once the line of 2 falls, 3.
+  pub commits-equals :
+      Plays 4
+      (two-and-three
+      ++ (take answers 8 ∷ look answers 2 ∷ commit 3 refused 26 ∷ sample 0 8 ∷ commit 2 refused 26 ∷ look answers 3 ∷ commit 3 answers 12 ∷ []))
+  -- The reader asks 6 and 7 of them, and nothing of the number; the players print them.
+  pub commits-read : boardVerdict (recordOf 4 (0xC0000 ∷ 0xD0000 ∷ 0xDFFFF ∷ []) (0 ∷ 0 ∷ 0 ∷ [])) ≡ noRefusal
+  pub commits-read-7 : boardVerdict (recordOf 4 (0xDFFFF ∷ 0xC0001 ∷ []) (0 ∷ 0 ∷ [])) ≡ verdict 7 1
+  pub commits-print : printOf (recordOf 4 (0xC0000 ∷ 0xD0002 ∷ []) (0 ∷ 0 ∷ [])) ≡ ascii "sources 4 events 2\n0 12 0 17\n1 13 0 17\nend open 0 level 0 margin 0\n"
+  -- A machine that is not sound.
+  pub looks-unsound : lookOf (controlled 8) ≡ record { machine = controlled 8; answer = 0; refusal = 8 }
+  pub commits-unsound : commitOf (controlled 8) 0 ≡ record { machine = controlled 8; answer = 0; refusal = 8 }

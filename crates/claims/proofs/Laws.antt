@@ -18,9 +18,9 @@ use Rattle.pic.specs.Sources.{rankAt, enableAt, pendingAt, thresholdOf}
 use Rattle.pic.specs.Calls.{sourceCount}
 use Rattle.pic_registers.specs.Calls as registers
 use Rattle.pic_csrs.specs.Calls as csrs
-use Rattle.pic_source.proofs.Bools.{and-parts, le-cases}
+use Rattle.pic_source.proofs.Bools.{le-cases}
 use Rattle.pic_laws.proofs.Kept.{current-is}
-use Rattle.pic_laws.proofs.Captures.{Found, look-found, margin-over, above-over}
+use Rattle.pic_laws.proofs.Captures.{Found, look-found, margin-over}
 use Rattle.pic.proofs.Winning.{eligible-parts, eligible-is}
 use Rattle.counters.specs.declared.Counters.{Counters}
 use Rattle.counters.specs.Timers as timers
@@ -35,12 +35,12 @@ use Rattle.handlers.specs.declared.Outcome.{Outcome}
 use Rattle.handlers.specs.Fields.{withMask, withCounters}
 use Rattle.handlers_stack.specs.Stacks.{blank}
 use Rattle.handlers.specs.Machines.{uppermost, powerOnOf}
-use Rattle.handlers.specs.Service.{accepted, refused, lifted, lookAt, newHandler, taken, marked, serves, replaced, chained}
+use Rattle.handlers.specs.Service.{accepted, refused, lifted, lookAt, newHandler, taken, marked, serves, replaced, chained, nextSource}
 use Rattle.handlers.specs.Calls.{stepOf}
-use Rattle.handlers_laws.proofs.Facts.{facts, Sound, saved-small, room}
+use Rattle.handlers_laws.proofs.Facts.{facts, Sound, saved-small, room, served-facts}
 use Rattle.handlers_laws.proofs.Cases.{step-cases}
 use Rattle.handlers_laws.proofs.Kept.{Ready, step-ready, power-on-ready, power-on-empty, top-current, one-more}
-use Rattle.claims.specs.Nested.{word, answerOf, classBy, seen, Won, eh1, Demand3}
+use Rattle.claims.specs.Nested.{word, answerOf, acceptedClass, classBy, seen, Won, eh1, Demand3}
 
 -- A served winner above the threshold is the one to serve.
 won : (c : Controller) (k : Look) → Found c k → thresholdOf (c .scalars) .0 < k .winner .rank .0 → Won c (k .winner .source)
@@ -99,16 +99,12 @@ module _ (m : Machine) (r : Ready m) where
   deep : m .depth ≤ length (m .stack)
   deep = omega (arith, r .places, sound-here .few)
 
-  -- Chain replaces the uppermost.
+  -- Chain and commit replace the uppermost.
   chained-swaps : 0 < m .depth → serves m ≡ true
       → (lookAt m .meihap ≡ 0 → ⊥) × Swapped eh1 m (answerOf (accepted (chained m) (lookAt m .meihap))) (chained m)
   chained-swaps d e =
-      let c = m .controller in
-      let s = sound-here in
-      let p = and-parts (eqb (lookAt m .winner .rank .0) (uppermost m .rank .0)) (lookAt m .above) e in
-      let g : lookAt m .winner .rank .0 ≡ uppermost m .rank .0 = eqb-true _ _ (p .0) in
-      let a = above-over c (p .1) in
-      let k = look-found c (s .controller) (omega (arith, a)) in (
+      let s = served-facts m sound-here e in
+      let k = s .found in (
         (λ z. omega (arith, z, k .names, k .winner .eligible .least)),
         record {
           rest = held seen (m .stack) (m .depth - 1);
@@ -116,29 +112,29 @@ module _ (m : Machine) (r : Ready m) where
           new = seen (replaced (uppermost m) (lookAt m .winner .source));
           was = held-pop seen (m .stack) (m .depth) blank d deep;
           is = held-swap seen (m .stack) (m .depth) (replaced (uppermost m) (lookAt m .winner .source)) d deep;
-          serves = record { names = k .names; ranked = sym g ∙ ap (λ (z : Rank). z .0) (k .winner .ranked) };
-          won = won c (lookAt m) k a;
+          serves = record { names = k .names; ranked = sym (s .ranked) ∙ ap (λ (z : Rank). z .0) (k .winner .ranked) };
+          won = won (m .controller) (lookAt m) k (s .above);
           same-rank = refl;
           same-saved = refl;
         },
       )
 
-  -- An event of another kind, or a refused one, leaves the stack as it is seen.
-  other-does : (kind : ℕ) (o : Outcome) → (kind ≡ 5 → ⊥) → (kind ≡ 7 → ⊥) → (kind ≡ 8 → ⊥)
+  -- An event that is of no class where it is accepted leaves the stack as it is seen.
+  other-does : (kind : ℕ) (o : Outcome) → acceptedClass kind (o .answer) ≡ isOther
       → held seen (o .machine .stack) (o .machine .depth) ≡ held seen (m .stack) (m .depth) → DoesBy kind m o
-  other-does kind o a b c h = rw (ne-eqb kind 5 a, ne-eqb kind 7 b, ne-eqb kind 8 c) (go (eqb (o .refusal) 0))
+  other-does kind o e h = rw e (go (eqb (o .refusal) 0))
     where
       go : (t : Bool) → Does eh1 (cond t isOther isOther) m (answerOf o) (o .machine)
       go true = h
       go false = h
 
   -- A controller's own event changes the controller alone.
-  controller-does : (kind : ℕ) → (kind ≡ 5 → ⊥) → (kind ≡ 7 → ⊥) → (kind ≡ 8 → ⊥) → (o : controller.Outcome) → DoesBy kind m (lifted m o)
-  controller-does kind a b c o = other-does kind (lifted m o) a b c refl
+  controller-does : (kind : ℕ) (o : controller.Outcome) → acceptedClass kind (o .answer) ≡ isOther → DoesBy kind m (lifted m o)
+  controller-does kind o e = other-does kind (lifted m o) e refl
 
   -- An event of the counters changes them alone: a clock or an error opens no handler.
-  counters-do : (kind : ℕ) (t : Counters) (answer : ℕ) → (kind ≡ 5 → ⊥) → (kind ≡ 7 → ⊥) → (kind ≡ 8 → ⊥) → DoesBy kind m (accepted (withCounters m t) answer)
-  counters-do kind t answer a b c = other-does kind (accepted (withCounters m t) answer) a b c refl
+  counters-do : (kind : ℕ) (t : Counters) (answer : ℕ) → acceptedClass kind answer ≡ isOther → DoesBy kind m (accepted (withCounters m t) answer)
+  counters-do kind t answer e = other-does kind (accepted (withCounters m t) answer) e refl
 
   step-does : (head value : ℕ) → DoesBy (kindOf head) m (stepOf m head value)
   step-does head v =
@@ -146,13 +142,13 @@ module _ (m : Machine) (r : Ready m) where
       step-cases m head v (λ k o. DoesBy k m o)
       (record {
         refuses = λ k q n. refused-does k m q n;
-        samples = controller-does 0 (λ e. omega arith) (λ e. omega arith) (λ e. omega arith) (registers.sampleOf (m .controller) a v);
-        loads = controller-does 1 (λ e. omega arith) (λ e. omega arith) (λ e. omega arith) (registers.loadOf (m .controller) a);
-        stores = λ f. controller-does 2 (λ e. omega arith) (λ e. omega arith) (λ e. omega arith) (registers.storeOf (m .controller) a v);
-        reads = controller-does 3 (λ e. omega arith) (λ e. omega arith) (λ e. omega arith) (csrs.csrReadOf (m .controller) a);
-        counter-reads = λ f. counters-do 3 (m .counters) (counters.csrValue (m .counters) (counters.csrAt a)) (λ e. omega arith) (λ e. omega arith) (λ e. omega arith);
-        writes = λ f. controller-does 4 (λ e. omega arith) (λ e. omega arith) (λ e. omega arith) (csrs.csrWriteOf (m .controller) a v);
-        counter-writes = λ f. counters-do 4 (counters.csrWritten (m .counters) (counters.csrAt a) v) 0 (λ e. omega arith) (λ e. omega arith) (λ e. omega arith);
+        samples = controller-does 0 (registers.sampleOf (m .controller) a v) refl;
+        loads = controller-does 1 (registers.loadOf (m .controller) a) refl;
+        stores = λ f. controller-does 2 (registers.storeOf (m .controller) a v) refl;
+        reads = controller-does 3 (csrs.csrReadOf (m .controller) a) refl;
+        counter-reads = λ f. counters-do 3 (m .counters) (counters.csrValue (m .counters) (counters.csrAt a)) refl;
+        writes = λ f. controller-does 4 (csrs.csrWriteOf (m .controller) a v) refl;
+        counter-writes = λ f. counters-do 4 (counters.csrWritten (m .counters) (counters.csrAt a) v) 0 refl;
         takes = λ f g. taken-pushes (λ z. let o = eqb-true (m .mask) 1 f in omega arith) g;
         opens = λ f. held-mark seen (m .stack) (m .depth) (marked (uppermost m)) blank (ltb-true 0 (m .depth) f) deep refl;
         chains = λ f e. let w = chained-swaps (ltb-true 0 (m .depth) f) e in rw (ne-eqb (lookAt m .meihap) 0 (w .0)) (w .1);
@@ -163,9 +159,11 @@ module _ (m : Machine) (r : Ready m) where
               was = held-pop seen (m .stack) (m .depth) blank (ltb-true 0 (m .depth) f) deep;
               restored = ap (λ (z : Rank). z .0) (current-is (m .controller) (uppermost m .saved) (saved-small m sound-here (ltb-true 0 (m .depth) f)));
             };
-        masks = λ f g. other-does 9 (accepted (withMask m v) 0) (λ e. omega arith) (λ e. omega arith) (λ e. omega arith) refl;
-        clocks = counters-do 10 (timers.clockOf (m .counters) .counters) (timers.clockOf (m .counters) .answer) (λ e. omega arith) (λ e. omega arith) (λ e. omega arith);
-        errors = λ f. counters-do 11 (errors.errorOf (m .counters) a .counters) (errors.errorOf (m .counters) a .answer) (λ e. omega arith) (λ e. omega arith) (λ e. omega arith);
+        masks = λ f g. other-does 9 (accepted (withMask m v) 0) refl refl;
+        clocks = counters-do 10 (timers.clockOf (m .counters) .counters) (timers.clockOf (m .counters) .answer) refl;
+        errors = λ f. counters-do 11 (errors.errorOf (m .counters) a .counters) (errors.errorOf (m .counters) a .answer) refl;
+        looks = other-does 12 (accepted m (nextSource m)) refl refl;
+        commits = λ f e. chained-swaps (ltb-true 0 (m .depth) f) e .1;
       })
 
 -- The laws of nested handlers hold of the machine.

@@ -37,12 +37,18 @@ pub record Answer : Type 0 where
 abbrev pub answerOf : Outcome → Answer
 answerOf o = record { answer = o .answer; refusal = o .refusal }
 
--- A taking is an accepted take. A chaining is an accepted chain whose answer isn't 0. A return is an accepted one.
+-- A taking is an accepted take. A chaining is an accepted chain whose answer isn't 0, and "a commit counts as a chaining in the nesting result" (document 02, No. 7). A
+-- return is an accepted one.
+abbrev pub acceptedClass : ℕ → ℕ → Class
+acceptedClass kind answer =
+    cond (eqb kind 5) isTaking
+    (cond (eqb kind 7) (cond (eqb answer 0) isOther isChaining)
+    (cond (eqb kind 8) isReturn
+    (cond (eqb kind 13) isChaining
+    isOther)))
+
 abbrev pub classBy : ℕ → Answer → Class
-classBy kind a =
-    cond (eqb (a .refusal) 0)
-    (cond (eqb kind 5) isTaking (cond (eqb kind 7) (cond (eqb (a .answer) 0) isOther isChaining) (cond (eqb kind 8) isReturn isOther)))
-    isOther
+classBy kind a = cond (eqb (a .refusal) 0) (acceptedClass kind (a .answer)) isOther
 
 -- A handler as the claim sees it: the mark of Open is not seen.
 abbrev pub seen : Handler → claim.Handler ℕ ℕ ℕ

@@ -1,13 +1,13 @@
 -- What `shape` answers is what the rules' table says; and which question fails first.
 use Prim.Native.Nat.{ℕ, _<_, _≤_}
 use mathlib.Core.Path.{_≡_, refl}
-use mathlib.Core.Bool.{Bool, true, false, cond}
+use mathlib.Core.Bool.{Bool, true, false, cond, _&&_, _||_}
 use mathlib.Core.Logic.{_⊎_, inl, inr}
 use native.Mathlib.Omega.{arith}
 use lib.ListN.{length}
-use lib.Dec.{lit≤}
+use lib.Dec.{lit≤, eqb}
 use borrow.Author.Tests.{lt-ltb, le-ltb, ltb-true, ltb-false}
-use Rattle.event.specs.Event.{kinds, kindOf, addressOf, isKind, unusedAreZero, shapeOf, ErrorShape}
+use Rattle.event.specs.Event.{uses, kinds, kindOf, addressOf, isKind, rowOf, unusedAreZero, shapeOf, ErrorShape, CommitShape, LookShape, ChainShape}
 
 -- A kind is printed in at most two digits.
 pub kinds-two-digits : length kinds ≤ 100
@@ -44,6 +44,20 @@ first-question head value = go (isKind (kindOf head)) (unusedAreZero (kindOf hea
     go true false h = inr (refl, refl, refl)
     go false seven h = inl (refl, refl)
 
-pub error-shape : ErrorShape
+-- A kind with this row.
+of-row : (k : ℕ) (address value : Bool) → isKind k ≡ true → rowOf k ≡ uses address value → (head v : ℕ) → kindOf head ≡ k
+    → shapeOf head v ≡ cond ((address || eqb (addressOf head) 0) && (value || eqb v 0)) 0 7
 unfolding shapeOf
-error-shape head value e = rw e
+of-row k address value i r head v e = rw (e, i, r)
+
+pub error-shape : ErrorShape
+error-shape = of-row 11 true false refl refl
+
+pub commit-shape : CommitShape
+commit-shape = of-row 13 true false refl refl
+
+pub look-shape : LookShape
+look-shape = of-row 12 false false refl refl
+
+pub chain-shape : ChainShape
+chain-shape = of-row 7 false false refl refl

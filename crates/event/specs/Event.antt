@@ -16,11 +16,12 @@ abbrev pub addressOf : ℕ → ℕ
 addressOf head = head % 65536
 
 -- Whether a kind uses the address, and whether it uses the value.
-abbrev uses : Bool → Bool → Uses
+abbrev pub uses : Bool → Bool → Uses
 uses address value = record { 0 = address; 1 = value }
 
 -- One row for each kind. Kinds 5 to 9 don't use the address; kinds 1, 3, 5, 6, 7, 8 don't use the value. "Kind 10 is one clock and uses neither address nor
--- value" (document 02, No. 1). "Kind 11 counts one error in the counter that its address names ...; its value is unused" (No. 5).
+-- value" (document 02, No. 1). "Kind 11 counts one error in the counter that its address names ...; its value is unused" (No. 5). Look and commit: "Neither uses the
+-- value, and 12 uses no address" (No. 7).
 abbrev pub kinds : List Uses
 kinds =
     uses true true  -- 0 sample
@@ -35,9 +36,11 @@ kinds =
     ∷ uses false true  -- 9 set mask to the value
     ∷ uses false false  -- 10 clock
     ∷ uses true false  -- 11 error
+    ∷ uses false false  -- 12 look
+    ∷ uses true false  -- 13 commit
     ∷ []
 
--- 6. Is the kind 0..11? It has a row.
+-- 6. Is the kind 0..13? It has a row.
 abbrev pub isKind : ℕ → Bool
 isKind k = ltb k (length kinds)
 
@@ -53,6 +56,23 @@ unusedAreZero kind address value = (rowOf kind .0 || eqb address 0) && (rowOf ki
 unfoldable pub shapeOf : ℕ → ℕ → ℕ
 shapeOf head value = cond (isKind (kindOf head)) (cond (unusedAreZero (kindOf head) (addressOf head) value) 0 7) 6
 
+-- What 6 and 7 ask of an event of a kind that uses the address alone, and of one that uses neither.
+abbrev pub UsesAddress : ℕ → Type 0
+UsesAddress k = (head value : ℕ) → kindOf head ≡ k → shapeOf head value ≡ cond (eqb value 0) 0 7
+
+abbrev pub UsesNeither : ℕ → Type 0
+UsesNeither k = (head value : ℕ) → kindOf head ≡ k → shapeOf head value ≡ cond (eqb (addressOf head) 0 && eqb value 0) 0 7
+
 -- Document 02, No. 5: "the record's reader and writer don't check" question 25. Of an event of kind 11 they ask that the value is 0, and nothing of the address.
 abbrev pub ErrorShape : Type 0
-ErrorShape = (head value : ℕ) → kindOf head ≡ 11 → shapeOf head value ≡ cond (eqb value 0) 0 7
+ErrorShape = UsesAddress 11
+
+-- No. 7: of a commit they ask the same, and nothing of the number that it commits; of a look as of a chain, that address and value are 0.
+abbrev pub CommitShape : Type 0
+CommitShape = UsesAddress 13
+
+abbrev pub LookShape : Type 0
+LookShape = UsesNeither 12
+
+abbrev pub ChainShape : Type 0
+ChainShape = UsesNeither 7

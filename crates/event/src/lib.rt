@@ -7,7 +7,7 @@ ghost use Rattle.event.specs.Event.{kindOf, addressOf, shapeOf};
 struct Uses(bool, bool);
 
 // One row for each kind, in the order of their numbers.
-const KINDS: [Uses; 12] = [
+const KINDS: [Uses; 14] = [
     Uses(true, true), // 0 sample
     Uses(true, false), // 1 load
     Uses(true, true), // 2 store
@@ -20,6 +20,8 @@ const KINDS: [Uses; 12] = [
     Uses(false, true), // 9 set mask
     Uses(false, false), // 10 clock
     Uses(true, false), // 11 error
+    Uses(false, false), // 12 look
+    Uses(true, false), // 13 commit
 ];
 
 // The kind of a head.

@@ -6,7 +6,7 @@ use Rattle.handlers.specs.declared.Machine.{Machine}
 use Rattle.handlers.specs.declared.Outcome.{Outcome}
 use Rattle.handlers.specs.declared.Margin.{Margin}
 use Rattle.handlers.specs.Machines.{soundOf}
-use Rattle.handlers.specs.Service.{ask, lookAt, sampleEvent, loadEvent, storeEvent, csrReadEvent, csrWriteEvent, takeEvent, openEvent, chainEvent, returnEvent, setMaskEvent, clockEvent, errorEvent, soundStepOf}
+use Rattle.handlers.specs.Service.{ask, lookAt, sampleEvent, loadEvent, storeEvent, csrReadEvent, csrWriteEvent, takeEvent, openEvent, chainEvent, returnEvent, setMaskEvent, clockEvent, errorEvent, lookEvent, commitEvent, soundStepOf}
 
 -- 8. Is the machine sound? It comes before all else that an event is asked.
 abbrev pub soundFirst : Machine → Outcome → Outcome
@@ -47,6 +47,12 @@ clockOf m = soundFirst m (clockEvent m)
 
 unfoldable pub errorOf : Machine → ℕ → Outcome
 errorOf m a = soundFirst m (errorEvent m a)
+
+unfoldable pub lookOf : Machine → Outcome
+lookOf m = soundFirst m (lookEvent m)
+
+unfoldable pub commitOf : Machine → ℕ → Outcome
+commitOf m s = soundFirst m (commitEvent m s)
 
 -- Event: 8 comes first, then 6 and 7, then its kind's.
 unfoldable pub stepOf : Machine → ℕ → ℕ → Outcome

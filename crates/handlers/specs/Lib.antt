@@ -9,3 +9,4 @@ pub mod Csrs
 pub mod Timers
 pub mod Switches
 pub mod Errors
+pub mod Commits

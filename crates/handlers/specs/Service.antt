@@ -1,4 +1,4 @@
--- Document 01, "Handler service", and the questions 12 to 21; document 02, No. 1, No. 4 and No. 5: what each event does and answers, once question 8 is answered yes. The rules are
+-- Document 01, "Handler service", and the questions 12 to 21; document 02, No. 1, No. 4, No. 5 and No. 7: what each event does and answers, once question 8 is answered yes. The rules are
 -- total: on a machine that is not sound they say what the code does, and question 8 keeps that from every caller.
 use Prim.Native.Nat.{ℕ, _+_, _-_, _%_, _^_}
 use mathlib.Core.Bool.{Bool, cond, not, _&&_, _||_}
@@ -129,7 +129,7 @@ openedBy m h = withMask (withUppermost (withController m (setCurrent (m .control
 abbrev pub opened : Machine → Machine
 opened m = openedBy m (uppermost m)
 
--- 17. Open, chain, return: is a handler open?
+-- 17. Open, chain, return, and document 02's look and commit: is a handler open?
 abbrev pub hasHandler : Machine → Bool
 hasHandler m = ltb 0 (m .depth)
 
@@ -140,25 +140,39 @@ openEvent m =
     (ask m (eqb (uppermost m .opened) 0) 18
     (accepted (opened m) (uppermost m .rank .0)))
 
+-- 17. 19. Chain, return, look, commit: is mask 0?
+abbrev pub inHandler : Machine → Outcome → Outcome
+inHandler m on = ask m (hasHandler m) 17 (ask m (eqb (m .mask) 0) 19 on)
+
 -- A chain serves the winner if its rank equals the uppermost handler's and is above threshold.
+abbrev pub servesIn : Handler → Look → Bool
+servesIn h k = eqb (k .winner .rank .0) (h .rank .0) && k .above
+
 abbrev pub serves : Machine → Bool
-serves m = eqb (lookAt m .winner .rank .0) (uppermost m .rank .0) && lookAt m .above
+serves m = servesIn (uppermost m) (lookAt m)
 
 -- The handler with another source.
 abbrev pub replaced : Handler → ℕ → Handler
 replaced h s = record { source = s; rank = h .rank; saved = h .saved; opened = h .opened }
 
 -- Chain: capture. If the winner's rank equals the uppermost handler's and is above threshold, its source replaces that handler's;
+abbrev pub chainedBy : Machine → Winner → Machine
+chainedBy m w = withUppermost (capturedBy m w) (replaced (uppermost m) (w .source))
+
 abbrev pub chained : Machine → Machine
-chained m = withUppermost (captured m) (replaced (uppermost m) (lookAt m .winner .source))
+chained m = chainedBy m (lookAt m .winner)
 
--- answer meihap. Else answer 0, and that is no chaining of the handler.
+-- answer meihap.
+abbrev pub served : Machine → Outcome
+served m = accepted (chained m) (lookAt m .meihap)
+
+-- Else answer 0, and that is no chaining of the handler.
 abbrev pub followed : Machine → Outcome
-followed m = cond (serves m) (accepted (chained m) (lookAt m .meihap)) (accepted (captured m) 0)
+followed m = cond (serves m) (served m) (accepted (captured m) 0)
 
--- 17. 19. Chain, return: is mask 0?
+-- 17. 19.
 unfoldable pub chainEvent : Machine → Outcome
-chainEvent m = ask m (hasHandler m) 17 (ask m (eqb (m .mask) 0) 19 (followed m))
+chainEvent m = inHandler m (followed m)
 
 -- Return: pop; current takes the saved rank; mask 1. Answer: handlers still open.
 abbrev pub returned : Machine → Machine
@@ -166,10 +180,7 @@ returned m = withMask (withDepth (withController m (setCurrent (m .controller) (
 
 -- 17. 19.
 unfoldable pub returnEvent : Machine → Outcome
-returnEvent m =
-    ask m (hasHandler m) 17
-    (ask m (eqb (m .mask) 0) 19
-    (accepted (returned m) (m .depth - 1)))
+returnEvent m = inHandler m (accepted (returned m) (m .depth - 1))
 
 -- Set mask to the value. 20. Is the value 0 or 1? 21. Value 1: no handler, or the uppermost opened?
 unfoldable pub setMaskEvent : Machine → ℕ → Outcome
@@ -190,8 +201,31 @@ mayCount a = leb a 2
 unfoldable pub errorEvent : Machine → ℕ → Outcome
 errorEvent m a = ask m (mayCount a) 25 (accepted (withCounters m (errors.errorOf (m .counters) a .counters)) (errors.errorOf (m .counters) a .answer))
 
--- An event by its kind: 0 sample, 1 load, 2 store, 3 CSR read, 4 CSR write, 5 take, 6 open, 7 chain, 8 return, 9 set mask to the value, 10 clock, 11 error. A kind that
--- there is not is refused with 6.
+-- Document 02, No. 7: "the source that a chain would serve, or 0".
+abbrev pub nextIn : Handler → Look → ℕ
+nextIn h k = cond (servesIn h k) (k .winner .source) 0
+
+abbrev pub nextSource : Machine → ℕ
+nextSource m = nextIn (uppermost m) (lookAt m)
+
+-- Look: it answers that source, "and changes nothing, with no capture". 17. 19.
+unfoldable pub lookEvent : Machine → Outcome
+lookEvent m = inHandler m (accepted m (nextSource m))
+
+-- Commit: "26 when the committed number is 0 or isn't what a look would answer". The number is the whole address, so one above 255 is no source's.
+abbrev pub mayCommit : Machine → ℕ → Bool
+mayCommit m s = not (eqb s 0) && eqb s (nextSource m)
+
+-- "It captures, replaces and answers as chain does."
+abbrev pub committed : Machine → ℕ → Outcome
+committed m s = ask m (mayCommit m s) 26 (served m)
+
+-- 17. 19. 26, "after question 19".
+unfoldable pub commitEvent : Machine → ℕ → Outcome
+commitEvent m s = inHandler m (committed m s)
+
+-- An event by its kind: 0 sample, 1 load, 2 store, 3 CSR read, 4 CSR write, 5 take, 6 open, 7 chain, 8 return, 9 set mask to the value, 10 clock, 11 error, 12 look,
+-- 13 commit. A kind that there is not is refused with 6.
 unfoldable pub eventOf : Machine → ℕ → ℕ → ℕ → Outcome
 eventOf m kind address value =
     cond (eqb kind 0) (sampleEvent m address value)
@@ -206,7 +240,9 @@ eventOf m kind address value =
     (cond (eqb kind 9) (setMaskEvent m value)
     (cond (eqb kind 10) (clockEvent m)
     (cond (eqb kind 11) (errorEvent m address)
-    (refused m 6))))))))))))
+    (cond (eqb kind 12) (lookEvent m)
+    (cond (eqb kind 13) (commitEvent m address)
+    (refused m 6))))))))))))))
 
 -- An event on a machine that is known to be sound: 6 and 7, then its kind's.
 unfoldable pub soundStepOf : Machine → ℕ → ℕ → Outcome

@@ -1,7 +1,7 @@
 // The published events of the machine, an event of any kind, and the margin query. Each asks question 8 first.
 
 ghost use mathlib.Core.Path.{_≡_};
-ghost use Rattle.handlers.specs.Calls.{sampleOf, loadOf, storeOf, csrReadOf, csrWriteOf, takeOf, openOf, chainOf, returnOf, setMaskOf, clockOf, errorOf, stepOf, marginAnswer};
+ghost use Rattle.handlers.specs.Calls.{sampleOf, loadOf, storeOf, csrReadOf, csrWriteOf, takeOf, openOf, chainOf, returnOf, setMaskOf, clockOf, errorOf, lookOf, commitOf, stepOf, marginAnswer};
 use crate::Machine;
 use crate::Margin;
 use crate::Outcome;
@@ -125,6 +125,26 @@ impl Machine {
             return self.refuse(8);
         }
         self.error_event(address)
+    }
+
+    // The source that a chain would serve now, or 0. Nothing is changed.
+    pub fn look(mut self) -> Outcome
+        ensures { λ r. ⌜ r ≡ lookOf self ⌝ }
+    {
+        if !self.is_sound() {
+            return self.refuse(8);
+        }
+        self.look_event()
+    }
+
+    // Serves this source in the uppermost handler's place, if it is what a look would answer now.
+    pub fn commit(mut self, source: u32) -> Outcome
+        ensures { λ r. ⌜ r ≡ commitOf self source ⌝ }
+    {
+        if !self.is_sound() {
+            return self.refuse(8);
+        }
+        self.commit_event(source)
     }
 
     // One event, a head and a value: the machine that it hands back, its answer and its refusal.

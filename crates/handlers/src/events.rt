@@ -140,6 +140,8 @@ impl Machine {
             9 => self.set_mask_event(value),
             10 => self.clock_event(),
             11 => self.error_event(address),
+            12 => self.look_event(),
+            13 => self.commit_event(address),
             _ => self.refuse(6),
         }
     }

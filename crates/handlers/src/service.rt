@@ -1,16 +1,19 @@
-// Take, open, chain, return and set mask: what they do once question 8 is answered yes.
+// Take, open, chain, return, set mask, look and commit: what they do once question 8 is answered yes.
 
 ghost use mathlib.Core.Path.{_≡_};
+ghost use mathlib.Core.Bool.{cond};
+ghost use lib.Dec.{ltb, eqb};
 ghost use lib.IntN.{pos};
 ghost use lib.Signed.{ltZ};
 ghost use Prim.Native.Nat.{_-_};
 ghost use Rattle.handlers.specs.Machines.{uppermost as uppermostHandler};
-ghost use Rattle.handlers.specs.Service.{takenBy, takeEvent, withUppermost, openedBy, openEvent, followed, chainEvent, returned, returnEvent, setMaskEvent};
+ghost use Rattle.handlers.specs.Service.{capturedBy, takenBy, takeEvent, withUppermost, openedBy, openEvent, servesIn, chainedBy, followed, chainEvent, returned, returnEvent, setMaskEvent, nextIn, lookEvent, committed, commitEvent};
 use crate::Machine;
 use crate::Outcome;
 use handlers_stack::Handler;
 use handlers_stack::put;
 use handlers_stack::uppermost;
+use pic::Look;
 use pic_comparator::Winner;
 
 // Whether a margin is above 0.
@@ -25,6 +28,35 @@ fn one_less(depth: u8) -> u8
     ensures { λ r. ⌜ r ≡ depth - 1 ⌝ }
 {
     if depth == 0 { 0 } else { depth - 1 }
+}
+
+// Whether a chain in the handler h serves the winner of this look: it is of that handler's rank and above the threshold.
+fn serves(h: Handler, look: Look) -> bool
+    ensures { λ r. ⌜ r ≡ servesIn h look ⌝ }
+{
+    let w = look.winner;
+    (w.rank.0 == h.rank.0) & look.above
+}
+
+// The source that a chain in the handler h would serve by this look, or 0.
+fn next_source(h: Handler, look: Look) -> u32
+    ensures { λ r. ⌜ r ≡ nextIn h look ⌝ }
+{
+    if serves(h, look) {
+        let w = look.winner;
+        return w.source as u32;
+    }
+    0
+}
+
+// Questions 17 and 19: 0 where a handler is open and the mask is 0, else the number of the first no.
+fn handler_question(depth: u8, mask: u8) -> u8
+    ensures { λ r. ⌜ r ≡ cond (ltb 0 depth) (cond (eqb mask 0) 0 19) 17 ⌝ }
+{
+    if depth == 0 {
+        return 17;
+    }
+    if mask == 0 { 0 } else { 19 }
 }
 
 impl Machine {
@@ -115,30 +147,44 @@ impl Machine {
     pub(crate) fn chain_event(self) -> Outcome
         ensures { λ r. ⌜ r ≡ chainEvent self ⌝ }
     {
-        if self.depth == 0 {
-            return self.refuse(17);
-        }
-        if self.mask != 0 {
-            return self.refuse(19);
+        let q = handler_question(self.depth, self.mask);
+        if q != 0 {
+            return self.refuse(q);
         }
         self.follow()
     }
 
     // A capture in the uppermost handler.
-    fn follow(mut self) -> Outcome
+    fn follow(self) -> Outcome
         ensures { λ r. ⌜ r ≡ followed self ⌝ }
     {
-        let mut h = self.top();
+        let h = self.top();
         let c = self.controller;
         let look = c.look();
         let w = look.winner;
+        if serves(h, look) {
+            return self.replace(w).accept(look.meihap);
+        }
+        self.capture(w).accept(0)
+    }
+
+    // The winner w captured.
+    fn capture(mut self, w: Winner) -> Machine
+        ensures { λ m. ⌜ m ≡ capturedBy self w ⌝ }
+    {
+        let c = self.controller;
         let next = c.capture(w);
         self.controller = next;
-        if (w.rank.0 == h.rank.0) & look.above {
-            h.source = w.source;
-            return self.with_top(h).accept(look.meihap);
-        }
-        self.accept(0)
+        self
+    }
+
+    // The winner w captured, and its source in the place of the uppermost handler's.
+    fn replace(self, w: Winner) -> Machine
+        ensures { λ m. ⌜ m ≡ chainedBy self w ⌝ }
+    {
+        let mut h = self.top();
+        h.source = w.source;
+        self.capture(w).with_top(h)
     }
 
     // Ends the uppermost handler, and puts back the current rank that its taking found.
@@ -146,13 +192,11 @@ impl Machine {
         ensures { λ r. ⌜ r ≡ returnEvent self ⌝ }
     {
         let d = self.depth;
-        if d == 0 {
-            return self.refuse(17);
+        let q = handler_question(d, self.mask);
+        if q != 0 {
+            return self.refuse(q);
         }
-        if self.mask != 0 {
-            return self.refuse(19);
-        }
-        self.pop().accept((d - 1) as u32)
+        self.pop().accept(one_less(d) as u32)
     }
 
     // One handler less, the current rank its saved one, and the mask on.
@@ -181,5 +225,44 @@ impl Machine {
         }
         self.mask = v as u8;
         self.accept(0)
+    }
+
+    // Answers the source that a chain would serve now, or 0.
+    pub(crate) fn look_event(self) -> Outcome
+        ensures { λ r. ⌜ r ≡ lookEvent self ⌝ }
+    {
+        let q = handler_question(self.depth, self.mask);
+        if q != 0 {
+            return self.refuse(q);
+        }
+        let h = self.top();
+        let c = self.controller;
+        let look = c.look();
+        self.accept(next_source(h, look))
+    }
+
+    // Serves the source s in the uppermost handler's place, if it is what a look would answer now.
+    pub(crate) fn commit_event(self, s: u32) -> Outcome
+        ensures { λ r. ⌜ r ≡ commitEvent self s ⌝ }
+    {
+        let q = handler_question(self.depth, self.mask);
+        if q != 0 {
+            return self.refuse(q);
+        }
+        self.serve(s)
+    }
+
+    // A capture in the uppermost handler, of the source s alone.
+    fn serve(self, s: u32) -> Outcome
+        ensures { λ r. ⌜ r ≡ committed self s ⌝ }
+    {
+        let h = self.top();
+        let c = self.controller;
+        let look = c.look();
+        let w = look.winner;
+        if (s == 0) | (s != next_source(h, look)) {
+            return self.refuse(26);
+        }
+        self.replace(w).accept(look.meihap)
     }
 }

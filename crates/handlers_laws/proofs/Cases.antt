@@ -1,12 +1,13 @@
 -- Every way that an event can go: refused by a question, or accepted by all of its own. What is shown of each way holds of every event.
 use Prim.Native.Nat.{ℕ, _-_}
 use mathlib.Core.Path.{_≡_, refl}
-use mathlib.Core.Bool.{Bool, true, false, cond, _||_}
+use mathlib.Core.Bool.{Bool, true, false, cond, not, _||_}
 use native.Mathlib.Omega.{arith}
 use lib.Dec.{leb, eqb}
 use lib.IntN.{pos}
 use lib.Signed.{ltZ}
-use borrow.Author.Tests.{eqb-true, eqb-false}
+use borrow.Author.Tests.{eqb-true, eqb-false, not-true}
+use Rattle.pic_source.proofs.Bools.{and-parts}
 use Rattle.event.specs.Event.{kindOf, addressOf, shapeOf}
 use Rattle.pic_registers.specs.Calls as registers
 use Rattle.pic_csrs.specs.Calls as csrs
@@ -17,7 +18,7 @@ use Rattle.handlers.specs.declared.Machine.{Machine}
 use Rattle.handlers.specs.declared.Outcome.{Outcome}
 use Rattle.handlers.specs.Fields.{withMask, withCounters}
 use Rattle.handlers.specs.Machines.{uppermost, isOpen, soundOf}
-use Rattle.handlers.specs.Service.{accepted, refused, ask, lifted, ofCounters, mayStore, mayWrite, mayCount, controllerWrite, hasHandler, lookAt, taken, opened, serves, captured, chained, returned, sampleEvent, loadEvent, storeEvent, csrReadEvent, csrWriteEvent, takeEvent, openEvent, chainEvent, returnEvent, setMaskEvent, clockEvent, errorEvent, eventOf, soundStepOf}
+use Rattle.handlers.specs.Service.{accepted, refused, ask, lifted, ofCounters, mayStore, mayWrite, mayCount, controllerWrite, hasHandler, inHandler, lookAt, taken, opened, serves, captured, served, returned, nextSource, mayCommit, sampleEvent, loadEvent, storeEvent, csrReadEvent, csrWriteEvent, takeEvent, openEvent, chainEvent, returnEvent, setMaskEvent, clockEvent, errorEvent, lookEvent, commitEvent, eventOf, soundStepOf}
 use Rattle.handlers.specs.Calls.{stepOf}
 
 -- The ways of an event of this address and value on the machine m, by its kind. A controller's own event may still be refused by the controller. A CSR is the
@@ -33,12 +34,22 @@ pub record Cases (m : Machine) (a v : ℕ) (P : ℕ → Outcome → Type 0) : Ty
   pub counter-writes : ofCounters a ≡ true → P 4 (accepted (withCounters m (counters.csrWritten (m .counters) (counters.csrAt a) v)) 0)
   pub takes : eqb (m .mask) 1 ≡ true → ltZ (pos 0) (lookAt m .margin) ≡ true → P 5 (accepted (taken m) (lookAt m .meihap))
   pub opens : hasHandler m ≡ true → P 6 (accepted (opened m) (uppermost m .rank .0))
-  pub chains : hasHandler m ≡ true → serves m ≡ true → P 7 (accepted (chained m) (lookAt m .meihap))
+  pub chains : hasHandler m ≡ true → serves m ≡ true → P 7 (served m)
   pub passes : P 7 (accepted (captured m) 0)
   pub returns : hasHandler m ≡ true → P 8 (accepted (returned m) (m .depth - 1))
   pub masks : leb v 1 ≡ true → (eqb v 0 || isOpen m) ≡ true → P 9 (accepted (withMask m v) 0)
   pub clocks : P 10 (accepted (withCounters m (timers.clockOf (m .counters) .counters)) (timers.clockOf (m .counters) .answer))
   pub errors : mayCount a ≡ true → P 11 (accepted (withCounters m (errors.errorOf (m .counters) a .counters)) (errors.errorOf (m .counters) a .answer))
+  pub looks : P 12 (accepted m (nextSource m))
+  pub commits : hasHandler m ≡ true → serves m ≡ true → P 13 (served m)
+
+-- A commit that is accepted is of the source that a chain serves.
+pub commit-served : (m : Machine) (s : ℕ) → mayCommit m s ≡ true → (serves m ≡ true) × (s ≡ lookAt m .winner .source)
+commit-served m s e = go (serves m) refl (and-parts (not (eqb s 0)) (eqb s (nextSource m)) e)
+  where
+    go : (t : Bool) → serves m ≡ t → (not (eqb s 0) ≡ true) × (eqb s (cond t (lookAt m .winner .source) 0) ≡ true) → (serves m ≡ true) × (s ≡ lookAt m .winner .source)
+    go true f p = (f, eqb-true s _ (p .1))
+    go false f p = absurd (eqb-false s 0 (not-true _ (p .0)) (eqb-true s 0 (p .1)))
 
 module _ (m : Machine) (a v : ℕ) (P : ℕ → Outcome → Type 0) (h : Cases m a v P) where
   -- A question of an event of kind k.
@@ -74,17 +85,21 @@ module _ (m : Machine) (a v : ℕ) (P : ℕ → Outcome → Type 0) (h : Cases m
   unfolding openEvent
   open-case = ask-case 6 (hasHandler m) 17 _ (λ e. omega arith) (λ f. ask-case 6 (eqb (uppermost m .opened) 0) 18 _ (λ e. omega arith) (λ g. h .opens f))
 
+  -- Questions 17 and 19.
+  handler-case : (k : ℕ) (o : Outcome) → (hasHandler m ≡ true → P k o) → P k (inHandler m o)
+  handler-case k o p = ask-case k (hasHandler m) 17 _ (λ e. omega arith) (λ f. ask-case k (eqb (m .mask) 0) 19 _ (λ e. omega arith) (λ g. p f))
+
   chain-case : P 7 (chainEvent m)
   unfolding chainEvent
-  chain-case = ask-case 7 (hasHandler m) 17 _ (λ e. omega arith) (λ f. ask-case 7 (eqb (m .mask) 0) 19 _ (λ e. omega arith) (λ g. go f (serves m) refl))
+  chain-case = handler-case 7 _ (λ f. go f (serves m) refl)
     where
-      go : hasHandler m ≡ true → (t : Bool) → serves m ≡ t → P 7 (cond t (accepted (chained m) (lookAt m .meihap)) (accepted (captured m) 0))
+      go : hasHandler m ≡ true → (t : Bool) → serves m ≡ t → P 7 (cond t (served m) (accepted (captured m) 0))
       go f true e = h .chains f e
       go f false e = h .passes
 
   return-case : P 8 (returnEvent m)
   unfolding returnEvent
-  return-case = ask-case 8 (hasHandler m) 17 _ (λ e. omega arith) (λ f. ask-case 8 (eqb (m .mask) 0) 19 _ (λ e. omega arith) (λ g. h .returns f))
+  return-case = handler-case 8 _ (λ f. h .returns f)
 
   mask-case : P 9 (setMaskEvent m v)
   unfolding setMaskEvent
@@ -93,6 +108,14 @@ module _ (m : Machine) (a v : ℕ) (P : ℕ → Outcome → Type 0) (h : Cases m
   error-case : P 11 (errorEvent m a)
   unfolding errorEvent
   error-case = ask-case 11 (mayCount a) 25 _ (λ e. omega arith) (λ f. h .errors f)
+
+  look-case : P 12 (lookEvent m)
+  unfolding lookEvent
+  look-case = handler-case 12 _ (λ f. h .looks)
+
+  commit-case : P 13 (commitEvent m a)
+  unfolding commitEvent
+  commit-case = handler-case 13 _ (λ f. ask-case 13 (mayCommit m a) 26 _ (λ e. omega arith) (λ g. h .commits f (commit-served m a g .0)))
 
   -- One kind, or the rest.
   choose : (k K : ℕ) (x y : Outcome) → P K x → P k y → P k (cond (eqb k K) x y)
@@ -117,7 +140,9 @@ module _ (m : Machine) (a v : ℕ) (P : ℕ → Outcome → Type 0) (h : Cases m
       (choose k 9 _ _ mask-case
       (choose k 10 _ _ (h .clocks)
       (choose k 11 _ _ error-case
-      (h .refuses k 6 (λ e. omega arith)))))))))))))
+      (choose k 12 _ _ look-case
+      (choose k 13 _ _ commit-case
+      (h .refuses k 6 (λ e. omega arith)))))))))))))))
 
 -- What is shown of each way holds of every event.
 pub step-cases : (m : Machine) (head value : ℕ) (P : ℕ → Outcome → Type 0) → Cases m (addressOf head) value P → P (kindOf head) (stepOf m head value)

@@ -10,11 +10,12 @@ use lib.IntN.{pos}
 use lib.Signed.{ltZ}
 use borrow.Author.Tests.{leb-true, eqb-true, le-leb, eq-eqb}
 use Rattle.pic_source.specs.declared.Rank.{Rank}
-use Rattle.pic_source.proofs.Bools.{or-cases, or-intro, all-at}
+use Rattle.pic_source.proofs.Bools.{and-parts, or-cases, or-intro, all-at}
 use Rattle.pic.specs.declared.Controller.{Controller}
 use Rattle.pic.specs.Sound as pic
+use Rattle.pic.specs.Sources.{thresholdOf}
 use Rattle.pic.specs.Calls.{sourceCount, currentRank}
-use Rattle.pic_laws.proofs.Captures.{look-found, margin-over}
+use Rattle.pic_laws.proofs.Captures.{Found, look-found, margin-over, above-over}
 use Rattle.counters.specs.declared.Counters.{Counters}
 use Rattle.counters.specs.Whole as counters
 use Rattle.handlers_stack.specs.Stacks.{levelOf}
@@ -22,7 +23,7 @@ use Rattle.handlers_stack.proofs.Stacks.{Fine, each, each-back, rank-high, leve
 use Rattle.handlers.specs.declared.Machine.{Machine}
 use Rattle.handlers.specs.Fields.{withController, withCounters}
 use Rattle.handlers.specs.Machines.{uppermost, isOpen, soundTests, soundOf}
-use Rattle.handlers.specs.Service.{lookAt}
+use Rattle.handlers.specs.Service.{lookAt, serves}
 
 pub record Sound (m : Machine) : Type 0 where
   pub few : m .depth ≤ 15
@@ -140,3 +141,15 @@ room m h k e =
     let c = m .controller in
     let o = margin-over c e in
     omega (arith, o .current, look-found c (h .controller) (omega (arith, o .current)) .rank-most, current-high m h k)
+
+-- The winner that a chain or a commit serves: it is of the uppermost handler's rank, and above the threshold.
+pub record Served (m : Machine) : Type 0 where
+  pub found : Found (m .controller) (lookAt m)
+  pub ranked : lookAt m .winner .rank .0 ≡ uppermost m .rank .0
+  pub above : thresholdOf (m .controller .scalars) .0 < lookAt m .winner .rank .0
+
+pub served-facts : (m : Machine) → Sound m → serves m ≡ true → Served m
+served-facts m s e =
+    let p = and-parts (eqb (lookAt m .winner .rank .0) (uppermost m .rank .0)) (lookAt m .above) e in
+    let a = above-over (m .controller) (p .1) in
+    record { found = look-found (m .controller) (s .controller) (omega (arith, a)); ranked = eqb-true _ _ (p .0); above = a }

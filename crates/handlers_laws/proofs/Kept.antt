@@ -22,7 +22,7 @@ use Rattle.counters.specs.Whole as whole
 use Rattle.counters.specs.Csrs as counters
 use Rattle.counters.proofs.Soundness.{reset-sound, clock-sound, error-sound}
 use Rattle.counters.proofs.Writes.{written-sound}
-use Rattle.pic_source.proofs.Bools.{and-parts, or-cases, eq-cases}
+use Rattle.pic_source.proofs.Bools.{or-cases, eq-cases}
 use Rattle.pic_laws.proofs.Kept.{sample-sound, sample-count, sample-current, store-sound, store-count, store-current, csr-write-sound, csr-write-count, csr-write-current, load-same, csr-read-same, capture-sound, capture-count, capture-current, current-sound, current-count, current-is, power-on-sound}
 use Rattle.pic_laws.proofs.Captures.{look-found, margin-over}
 use Rattle.handlers_stack.specs.declared.Handler.{Handler}
@@ -34,7 +34,7 @@ use Rattle.handlers.specs.Machines.{uppermost, isOpen, soundOf, powerOnOf}
 use Rattle.handlers.specs.Service.{lifted, switches, mayStore, mayWrite, lookAt, newHandler, oneMore, taken, marked, opened, serves, replaced, captured, chained, returned}
 use Rattle.handlers.specs.Calls.{stepOf}
 use Rattle.handlers_laws.proofs.Cases.{step-cases}
-use Rattle.handlers_laws.proofs.Facts.{Sound, facts, sound, controller-sound, counters-sound, top-fine, open-cases, saved-small, room}
+use Rattle.handlers_laws.proofs.Facts.{Sound, facts, sound, controller-sound, counters-sound, top-fine, open-cases, saved-small, room, served-facts}
 
 -- A sound machine whose stack has its fifteen places.
 pub record Ready (m : Machine) : Type 0 where
@@ -229,7 +229,7 @@ returned-ready m r d =
     })
     (r .places)
 
--- Chain: the capture, and the uppermost handler with another source.
+-- Chain and commit: the capture, and the uppermost handler with another source.
 captured-ready : (m : Machine) → Ready m → Ready (captured m)
 captured-ready m r =
     let c = m .controller in
@@ -240,8 +240,7 @@ chained-ready m r d e =
     let c = m .controller in
     let s = facts m (r .isSound) in
     let t = top-fine m s d in
-    let g = eqb-true (lookAt m .winner .rank .0) (uppermost m .rank .0) (and-parts (eqb (lookAt m .winner .rank .0) (uppermost m .rank .0)) (lookAt m .above) e .0) in
-    let k = look-found c (s .controller) (omega (arith, t .rank-least, g)) in
+    let k = served-facts m s e .found in
     let q = captured-ready m r in
     let f = facts (captured m) (q .isSound) in
     let h = replaced (uppermost m) (lookAt m .winner .source) in
@@ -331,6 +330,8 @@ module _ (m : Machine) (r : Ready m) where
         masks = λ f g. masked-ready m r v f g;
         clocks = with-counters m _ r (clock-sound (m .counters) (facts m (r .isSound) .counters));
         errors = λ f. let l = leb-true a 2 f in with-counters m _ r (error-sound (m .counters) a (omega (arith, l)) (facts m (r .isSound) .counters));
+        looks = r;
+        commits = λ f e. chained-ready m r (ltb-true 0 (m .depth) f) e;
       })
 
 -- Power-on is sound, also with an N that it refuses.

@@ -53,5 +53,7 @@ latches-follow m head v e accepted s a b =
       masks = λ f g z. quiet m e s a b c refl;
       clocks = λ z. quiet m e s a b c refl;
       errors = λ f z. quiet m e s a b c refl;
+      looks = λ z. quiet m e s a b c refl;
+      commits = λ f g z. quiet m e s a b (captureOf c (lookAt m .winner)) (capture-arrays c (lookAt m .winner));
     })
     accepted

@@ -10,4 +10,5 @@ pub mod Values
 pub mod Csrs
 pub mod Timers
 pub mod Errors
+pub mod Commits
 pub mod Switches

@@ -42,6 +42,8 @@ step-stays m head v s =
       masks = λ f g. arrays-stay c s c refl;
       clocks = arrays-stay c s c refl;
       errors = λ f. arrays-stay c s c refl;
+      looks = arrays-stay c s c refl;
+      commits = λ f g. arrays-stay c s (captureOf c (lookAt m .winner)) (capture-arrays c (lookAt m .winner));
     })
 
 pub field-kept : (m : Machine) (head value s : ℕ) → (kindOf head ≡ 2 → addressOf head ≡ 4 * s → ⊥)

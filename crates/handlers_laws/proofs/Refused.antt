@@ -34,6 +34,8 @@ module _ (m : Machine) where
         masks = λ f g d. absurd (d refl);
         clocks = λ d. absurd (d refl);
         errors = λ f d. absurd (d refl);
+        looks = λ d. refl;
+        commits = λ f e d. absurd (d refl);
       })
 
   -- An unsound machine gets 8, and is handed back as it was.

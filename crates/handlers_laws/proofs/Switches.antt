@@ -116,4 +116,6 @@ current-kept m head v d =
       masks = λ f g x y. refl;
       clocks = λ x y. refl;
       errors = λ f x y. refl;
+      looks = λ x y. refl;
+      commits = λ f g x y. capture-current c;
     })

@@ -7,8 +7,8 @@ use lib.ListN.{length}
 use Rattle.nesting.specs.Lists.{All, Rising, Match}
 use Rattle.nesting.specs.Trace.{Entry, taking, chaining, returning, other, Place, Has, takings, returns, OwnReturn, opens, served}
 
--- What an event was. "A taking is an accepted take. A chaining is an accepted chain whose answer isn't 0." A return here is an accepted one. All
--- else is other: refused events, chains that answer 0, kinds added later, heads of no kind.
+-- What an event was. "A taking is an accepted take. A chaining is an accepted chain whose answer isn't 0", or an accepted commit (document 02, No. 7). A return here is an
+-- accepted one. All else is other: refused events, chains that answer 0, other kinds, heads of no kind. Which is which the machine says (`class`).
 pub data Class : Type 0 where
   isTaking isChaining isReturn isOther : Class
 

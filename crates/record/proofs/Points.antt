@@ -92,11 +92,11 @@ unfolding readVerdict wordsOf walkFrom shapeOf
 refused-5 = refl
 
 -- Two events of which the second is of no kind; and the same with an address in the first, a take.
-pub refused-6 : readAnswer board (recordOf 4 (0x50000 ∷ 0xc0000 ∷ []) (0 ∷ 0 ∷ [])) 9 9 ≡ refusedAt 6 1
+pub refused-6 : readAnswer board (recordOf 4 (0x50000 ∷ 0xe0000 ∷ []) (0 ∷ 0 ∷ [])) 9 9 ≡ refusedAt 6 1
 unfolding readVerdict wordsOf bytesOfWords walkFrom shapeOf
 refused-6 = refl
 
-pub refused-7 : readAnswer board (recordOf 4 (0x50001 ∷ 0xc0000 ∷ []) (0 ∷ 0 ∷ [])) 9 9 ≡ refusedAt 7 0
+pub refused-7 : readAnswer board (recordOf 4 (0x50001 ∷ 0xe0000 ∷ []) (0 ∷ 0 ∷ [])) 9 9 ≡ refusedAt 7 0
 unfolding readVerdict wordsOf bytesOfWords walkFrom shapeOf
 refused-7 = refl
 

@@ -14,7 +14,7 @@ recordRows =
     ∷ (3, "more than 4,000 events")
     ∷ (4, "the length is not 8 + 8 x n, or heads and values are not equally many")
     ∷ (5, "the arrays or bytes lent do not hold it all")
-    ∷ (6, "the kind is not 0 to 11")
+    ∷ (6, "the kind is not 0 to 13")
     ∷ (7, "an address or a value that the kind does not use is not 0")
     ∷ (8, "the machine handed in is not sound")
     ∷ (22, "N is above 63, the compact player's most")
@@ -39,6 +39,7 @@ eventRows =
     ∷ (21, "interrupts on, while the uppermost handler is not opened")
     ∷ (24, "priord is switched while a handler is open")
     ∷ (25, "the error counter's number is above 2")
+    ∷ (26, "the committed number is 0 or is not what a look would answer")
     ∷ []
 
 -- The words of the first row with this number; none where no row has it.

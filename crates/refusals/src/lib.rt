@@ -37,6 +37,11 @@ fn put_event_words(buffer: &mut [u8], at: usize, refusal: u8) -> usize
         ),
         24 => put_text(buffer, at, b"priord is switched while a handler is open"),
         25 => put_text(buffer, at, b"the error counter's number is above 2"),
+        26 => put_text(
+            buffer,
+            at,
+            b"the committed number is 0 or is not what a look would answer",
+        ),
         _ => put_text(buffer, at, b""),
     }
 }
@@ -56,7 +61,7 @@ pub fn put_words(buffer: &mut [u8], at: usize, refusal: u8) -> usize
             b"the length is not 8 + 8 x n, or heads and values are not equally many",
         ),
         5 => put_text(buffer, at, b"the arrays or bytes lent do not hold it all"),
-        6 => put_text(buffer, at, b"the kind is not 0 to 11"),
+        6 => put_text(buffer, at, b"the kind is not 0 to 13"),
         7 => put_text(
             buffer,
             at,

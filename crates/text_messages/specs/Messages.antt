@@ -43,7 +43,7 @@ refused refusal place = refusedAt refusal place ++ saying (wordsOf refusal)
 abbrev pub inLine : ℕ → List ℕ
 inLine line = ascii " (line " ++ decimal line ++ ascii ")"
 
--- A text whose record is refused: `refused 6 at 1 (line 3): the kind is not 0 to 11`.
+-- A text whose record is refused: `refused 6 at 1 (line 3): the kind is not 0 to 13`.
 abbrev pub refusedIn : ℕ → ℕ → ℕ → List ℕ
 refusedIn refusal place line = refusedAt refusal place ++ inLine line ++ saying (wordsOf refusal)
 

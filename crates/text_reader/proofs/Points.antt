@@ -120,7 +120,7 @@ unfolding rules
 one-source = refl
 
 -- The second event is of no kind, in line 5: question 6 at place 1.
-pub no-kind : answer (ascii "4\n50000:0\n\n# no kind\nc0000:0\n") ≡ written (refusedAt 6 1) 5
+pub no-kind : answer (ascii "4\n50000:0\n\n# no kind\ne0000:0\n") ≡ written (refusedAt 6 1) 5
 unfolding rules
 no-kind = refl
 

@@ -97,6 +97,12 @@ pub trait Play {
     fn error(&mut self, counter: u32) -> Outcome {
         self.act(ERROR, counter, 0)
     }
+    fn look(&mut self) -> Outcome {
+        self.act(LOOK, 0, 0)
+    }
+    fn commit(&mut self, number: u32) -> Outcome {
+        self.act(COMMIT, number, 0)
+    }
 
     /// Ranks and enables a source.
     fn prepare(&mut self, source: u32, field: u32) {

@@ -101,6 +101,12 @@ slice-aggregate-put-text-16 c = search needs
 put-text-requires-16 : tie.Need-put-text-requires-16
 put-text-requires-16 c κs = search needs
 
+slice-aggregate-put-text-17 : tie.Need-slice-aggregate-put-text-17
+slice-aggregate-put-text-17 c = search needs
+
+put-text-requires-17 : tie.Need-put-text-requires-17
+put-text-requires-17 c κs = search needs
+
 same-length : tie.Need-same-length
 same-length c = search needs
 
@@ -210,8 +216,15 @@ same-length-16 : tie.Need-same-length-16
 same-length-16 c = search needs
 
 returns-16 : tie.Need-returns-16
+unfolding eventRows wordsIn ascii
+returns-16 c = rw (c .before .before .before .before .before .match .keys16) (c .before .before .put-text16 .ensures)
+
+same-length-17 : tie.Need-same-length-17
+same-length-17 c = search needs
+
+returns-17 : tie.Need-returns-17
 unfolding eventRows
-returns-16 c = rw (none-in (c .before .before .before .before .before .before .before .args .refusal) _ eventRows (c .before .before .before .before .before .match .rest)) (c .before .before .put-text16 .ensures)
+returns-17 c = rw (none-in (c .before .before .before .before .before .before .before .args .refusal) _ eventRows (c .before .before .before .before .before .match .rest)) (c .before .before .put-text17 .ensures)
 
 pub put-event-words-spec : {M : Type 1} → statement M
 put-event-words-spec =
@@ -249,6 +262,8 @@ put-event-words-spec =
     put-text-requires-15
     slice-aggregate-put-text-16
     put-text-requires-16
+    slice-aggregate-put-text-17
+    put-text-requires-17
     same-length
     returns
     same-length-2
@@ -280,4 +295,6 @@ put-event-words-spec =
     same-length-15
     returns-15
     same-length-16
-    returns-16)
+    returns-16
+    same-length-17
+    returns-17)

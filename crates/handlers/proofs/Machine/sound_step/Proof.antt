@@ -56,6 +56,12 @@ clock-event-requires c κs = search needs
 error-event-requires : tie.Need-error-event-requires
 error-event-requires c κs = search needs
 
+look-event-requires : tie.Need-look-event-requires
+look-event-requires c κs = search needs
+
+commit-event-requires : tie.Need-commit-event-requires
+commit-event-requires c κs = search needs
+
 refuse-requires-2 : tie.Need-refuse-requires-2
 refuse-requires-2 c κs = search needs
 
@@ -109,9 +115,17 @@ returns-13 c = rw (← c .before .before .before .before .before .shape .ensures
 
 returns-14 : tie.Need-returns-14
 unfolding soundStepOf eventOf
-returns-14 c =
+returns-14 c = rw (← c .before .before .before .before .before .shape .ensures, eq-eqb _ _ (c .before .before .before .before .if1 .left), ← c .before .before .kind .ensures, c .before .match .keys13) (c .look-event .ensures)
+
+returns-15 : tie.Need-returns-15
+unfolding soundStepOf eventOf
+returns-15 c = rw (← c .before .before .before .before .before .shape .ensures, eq-eqb _ _ (c .before .before .before .before .if1 .left), ← c .before .before .kind .ensures, c .before .match .keys14, ← c .before .before .before .address .ensures) (c .commit-event .ensures)
+
+returns-16 : tie.Need-returns-16
+unfolding soundStepOf eventOf
+returns-16 c =
     let r = c .before .match .rest in
-    rw (← c .before .before .before .before .before .shape .ensures, eq-eqb _ _ (c .before .before .before .before .if1 .left), ← c .before .before .kind .ensures, ne-eqb _ _ (r .0 .0 .0 .0 .0 .0 .0 .0 .0 .0 .0 .1), ne-eqb _ _ (r .0 .0 .0 .0 .0 .0 .0 .0 .0 .0 .1), ne-eqb _ _ (r .0 .0 .0 .0 .0 .0 .0 .0 .0 .1), ne-eqb _ _ (r .0 .0 .0 .0 .0 .0 .0 .0 .1), ne-eqb _ _ (r .0 .0 .0 .0 .0 .0 .0 .1), ne-eqb _ _ (r .0 .0 .0 .0 .0 .0 .1), ne-eqb _ _ (r .0 .0 .0 .0 .0 .1), ne-eqb _ _ (r .0 .0 .0 .0 .1), ne-eqb _ _ (r .0 .0 .0 .1), ne-eqb _ _ (r .0 .0 .1), ne-eqb _ _ (r .0 .1), ne-eqb _ _ (r .1)) (c .refuse2 .ensures)
+    rw (← c .before .before .before .before .before .shape .ensures, eq-eqb _ _ (c .before .before .before .before .if1 .left), ← c .before .before .kind .ensures, ne-eqb _ _ (r .0 .0 .0 .0 .0 .0 .0 .0 .0 .0 .0 .0 .0 .1), ne-eqb _ _ (r .0 .0 .0 .0 .0 .0 .0 .0 .0 .0 .0 .0 .1), ne-eqb _ _ (r .0 .0 .0 .0 .0 .0 .0 .0 .0 .0 .0 .1), ne-eqb _ _ (r .0 .0 .0 .0 .0 .0 .0 .0 .0 .0 .1), ne-eqb _ _ (r .0 .0 .0 .0 .0 .0 .0 .0 .0 .1), ne-eqb _ _ (r .0 .0 .0 .0 .0 .0 .0 .0 .1), ne-eqb _ _ (r .0 .0 .0 .0 .0 .0 .0 .1), ne-eqb _ _ (r .0 .0 .0 .0 .0 .0 .1), ne-eqb _ _ (r .0 .0 .0 .0 .0 .1), ne-eqb _ _ (r .0 .0 .0 .0 .1), ne-eqb _ _ (r .0 .0 .0 .1), ne-eqb _ _ (r .0 .0 .1), ne-eqb _ _ (r .0 .1), ne-eqb _ _ (r .1)) (c .refuse2 .ensures)
 
 pub sound-step-spec : {M : Type 1} → statement M
 sound-step-spec =
@@ -134,6 +148,8 @@ sound-step-spec =
     set-mask-event-requires
     clock-event-requires
     error-event-requires
+    look-event-requires
+    commit-event-requires
     refuse-requires-2
     returns-2
     returns-3
@@ -147,4 +163,6 @@ sound-step-spec =
     returns-11
     returns-12
     returns-13
-    returns-14)
+    returns-14
+    returns-15
+    returns-16)
