@@ -699,7 +699,7 @@ fn looks_and_commits(random: &mut Random, limits: Limits) -> Vec<u8> {
         _ => {}
     }
     let mut record = script.record();
-    if random.chance(1, 5) {
+    if random.chance(1, 3) {
         spoil_look(&mut record, random);
     }
     bytes_of(&record)
@@ -710,8 +710,9 @@ fn looks_and_commits(random: &mut Random, limits: Limits) -> Vec<u8> {
 fn spoil_look(record: &mut Record, random: &mut Random) {
     let number = number_of_commit(random);
     let above = random.pick(&[KINDS, KINDS, KINDS + 1, 0x10C, 0x10D, 0x800D]);
-    let mut event = random.pick(&[Event::new(LOOK, 0, 0), Event::new(COMMIT, number, 0)]);
-    if random.chance(4, 5) {
+    let (look, commit) = (Event::new(LOOK, 0, 0), Event::new(COMMIT, number, 0));
+    let mut event = random.pick(&[look, look, commit]);
+    if random.chance(5, 6) {
         use_unused(&mut event, random);
     } else {
         event = Event::new(above, number, 0);
@@ -2704,7 +2705,7 @@ fn number_of_commit(random: &mut Random) -> u32 {
 /// An event of any kind, with no address and no value; an error or a commit may have an address.
 pub(crate) fn bare_event(random: &mut Random) -> Event {
     let any = random.below(KINDS);
-    let kind = random.pick(&[ERROR, COMMIT, any, any, any, any, any, any]);
+    let kind = random.pick(&[ERROR, LOOK, COMMIT, any, any, any, any, any]);
     let address = match kind {
         ERROR => address_of_error(random),
         COMMIT => number_of_commit(random),

@@ -6,7 +6,7 @@ use common::*;
 use reference::event::*;
 use reference::generate::{generate, FAMILIES};
 use reference::machine::*;
-use reference::player::print;
+use reference::player::{play, print};
 use reference::random::Random;
 use reference::rank::{Field, Rank};
 use reference::record::{self, lay_out, write_record, Limits, Record, Refusal, BOARD, COMPACT};
@@ -1134,7 +1134,12 @@ sources 6 events 35
 end open 0 level 0 margin -5
 ";
     for limits in [BOARD, COMPACT] {
-        assert_eq!(print(&laid_out(&events), limits), text);
+        let (printed, tally) = play(&laid_out(&events), limits);
+        assert_eq!(printed, text);
+        let accepted = |kind: u32| tally.accepted[kind as usize];
+        assert_eq!((accepted(LOOK), accepted(COMMIT)), (4, 1));
+        assert_eq!((tally.looks_found, tally.chains_served), (3, 0));
+        assert_eq!([17, 19, 26].map(|number| tally.refusals[number]), [2, 2, 6]);
         let refused = |head, value| print(&laid_out(&[(0x000D_0009, 0), (head, value)]), limits);
         assert_eq!(refused(0x000C_0002, 0), "refused 7 at 1\n");
         assert_eq!(refused(0x000C_0000, 2), "refused 7 at 1\n");
@@ -1334,7 +1339,7 @@ fn met_by(name: &str, rounds: u64, limits: Limits) -> Met {
 }
 
 fn met(limits: Limits) -> Met {
-    met_by("looks and commits", 400, limits)
+    met_by("looks and commits", 500, limits)
 }
 
 /// What becomes of looks, commits and chains in the family and in the mixed ones.
@@ -1480,7 +1485,7 @@ fn some_of_the_family_are_refused_for_unused_parts_or_a_kind_above() {
             met.times
         );
         let refused: u32 = met.times.values().sum();
-        assert!(u64::from(refused) <= rounds / 3, "{refused}");
+        assert!(u64::from(refused) <= rounds * 2 / 5, "{refused}");
     }
 }
 
