@@ -2,6 +2,7 @@
 
 mod common;
 
+use common::records::*;
 use common::*;
 use reference::event::*;
 use reference::generate::{generate, FAMILIES};
@@ -9,7 +10,7 @@ use reference::machine::*;
 use reference::player::{play, print};
 use reference::random::Random;
 use reference::rank::{Field, Rank};
-use reference::record::{self, lay_out, write_record, Limits, Record, Refusal, BOARD, COMPACT};
+use reference::record::{self, write_record, Limits, Record, Refusal, BOARD, COMPACT};
 use std::cmp::Reverse;
 use std::collections::BTreeMap;
 
@@ -147,18 +148,6 @@ fn a_commit_uses_its_address_and_no_value() {
     assert_eq!(asking(&[2]).act(COMMIT, 2, 0), answer(BASE + 8));
 }
 
-fn reading(bytes: &[u8], limits: Limits) -> Option<(u32, usize)> {
-    let refusal = record::read(bytes, limits, limits.events).err();
-    refusal.map(|Refusal { number, place }| (number, place))
-}
-
-/// A record of six sources.
-fn laid_out(events: &[(u32, u32)]) -> Vec<u8> {
-    let heads: Vec<u32> = events.iter().map(|event| event.0).collect();
-    let values: Vec<u32> = events.iter().map(|event| event.1).collect();
-    lay_out(events.len() as u32, 6, &heads, &values)
-}
-
 #[test]
 fn reader_and_writer_take_a_look_and_every_number_of_a_commit() {
     let mut cases = vec![
@@ -182,7 +171,7 @@ fn reader_and_writer_take_a_look_and_every_number_of_a_commit() {
         }
     }
     for (head, value, refusal) in cases {
-        let bytes = laid_out(&[(0x000D_0003, 0), (head, value)]);
+        let bytes = laid_out(6, &[(0x000D_0003, 0), (head, value)]);
         for limits in [BOARD, COMPACT] {
             assert_eq!(reading(&bytes, limits), refusal, "{head:x}:{value:x}");
         }
@@ -1134,13 +1123,13 @@ sources 6 events 35
 end open 0 level 0 margin -5
 ";
     for limits in [BOARD, COMPACT] {
-        let (printed, tally) = play(&laid_out(&events), limits);
+        let (printed, tally) = play(&laid_out(6, &events), limits);
         assert_eq!(printed, text);
         let accepted = |kind: u32| tally.accepted[kind as usize];
         assert_eq!((accepted(LOOK), accepted(COMMIT)), (4, 1));
         assert_eq!((tally.looks_found, tally.chains_served), (3, 0));
         assert_eq!([17, 19, 26].map(|number| tally.refusals[number]), [2, 2, 6]);
-        let refused = |head, value| print(&laid_out(&[(0x000D_0009, 0), (head, value)]), limits);
+        let refused = |head, value| print(&laid_out(6, &[(0x000D_0009, 0), (head, value)]), limits);
         assert_eq!(refused(0x000C_0002, 0), "refused 7 at 1\n");
         assert_eq!(refused(0x000C_0000, 2), "refused 7 at 1\n");
         assert_eq!(refused(0x000D_0002, 2), "refused 7 at 1\n");
@@ -1152,39 +1141,6 @@ end open 0 level 0 margin -5
 
 fn family(rounds: u64, limits: Limits) -> Vec<Vec<u8>> {
     family_of("looks and commits", rounds, limits)
-}
-
-fn family_of(name: &str, rounds: u64, limits: Limits) -> Vec<Vec<u8>> {
-    let (_, build) = FAMILIES.iter().find(|found| found.0 == name).unwrap();
-    let record = |round| build(&mut Random::for_index(1, round), limits);
-    (0..rounds).map(record).collect()
-}
-
-/// What the records of the family met, by name.
-#[derive(Default)]
-struct Met {
-    times: BTreeMap<String, u32>,
-}
-
-impl Met {
-    fn count(&mut self, name: impl Into<String>) {
-        *self.times.entry(name.into()).or_default() += 1;
-    }
-
-    fn count_if(&mut self, yes: bool, name: &str) {
-        if yes {
-            self.count(name);
-        }
-    }
-
-    fn times(&self, name: &str) -> u32 {
-        self.times.get(name).copied().unwrap_or(0)
-    }
-
-    fn at_least(&self, least: u32, name: &str) {
-        let times = self.times(name);
-        assert!(times >= least, "{name}: {times}");
-    }
 }
 
 /// What became of a look, a commit or a chain.
@@ -1443,18 +1399,6 @@ fn the_family_has_stale_looks_of_all_sorts() {
         // At once it is always right.
         assert_eq!(met.times("at once, 26"), 0);
     }
-}
-
-/// The event at which a record of the family is refused with 6 or 7.
-fn refused_at(bytes: &[u8], limits: Limits) -> Option<(u32, Event)> {
-    let (number, place) = reading(bytes, limits)?;
-    let word = |place: usize| {
-        let four = bytes[4 * place..4 * place + 4].try_into().unwrap();
-        u32::from_le_bytes(four)
-    };
-    let head = word(2 + place);
-    let value = word(2 + word(0) as usize + place);
-    Some((number, Event { head, value }))
 }
 
 #[test]

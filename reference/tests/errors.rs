@@ -2,6 +2,7 @@
 
 mod common;
 
+use common::records::*;
 use common::*;
 use reference::error_counter::*;
 use reference::event::*;
@@ -9,9 +10,8 @@ use reference::generate::{generate, FAMILIES};
 use reference::machine::*;
 use reference::player::print;
 use reference::random::Random;
-use reference::record::{self, lay_out, Limits, Record, Refusal, BOARD, COMPACT};
+use reference::record::{self, Limits, Record, Refusal, BOARD, COMPACT};
 use reference::timer::TIMER_CSRS;
-use std::collections::BTreeMap;
 
 /// The greatest count.
 const MOST: u32 = 134_217_727;
@@ -437,18 +437,6 @@ fn errors_within_nested_handlers() {
 
 // Records.
 
-fn reading(bytes: &[u8], limits: Limits) -> Option<(u32, usize)> {
-    let refusal = record::read(bytes, limits, limits.events).err();
-    refusal.map(|Refusal { number, place }| (number, place))
-}
-
-/// A record of two sources.
-fn laid_out(events: &[(u32, u32)]) -> Vec<u8> {
-    let heads: Vec<u32> = events.iter().map(|event| event.0).collect();
-    let values: Vec<u32> = events.iter().map(|event| event.1).collect();
-    lay_out(events.len() as u32, 2, &heads, &values)
-}
-
 #[test]
 fn reader_and_writer_take_every_address_of_an_error() {
     for address in [0, 1, 2, 3, 4, 0x7F0, 0x8000, 0xFFFF] {
@@ -461,7 +449,7 @@ fn reader_and_writer_take_every_address_of_an_error() {
             (0x010B_0000 | address, 0, Some((6, 1))),
         ] {
             let events = [(0x000B_0002, 0), (head, value)];
-            let bytes = laid_out(&events);
+            let bytes = laid_out(2, &events);
             for limits in [BOARD, COMPACT] {
                 assert_eq!(reading(&bytes, limits), refusal);
             }
@@ -505,10 +493,10 @@ sources 2 events 11
 end open 0 level 0 margin 0
 ";
     for limits in [BOARD, COMPACT] {
-        assert_eq!(print(&laid_out(&events), limits), text);
-        let bad = laid_out(&[(0x000B_0003, 0), (0x000B_0003, 1)]);
+        assert_eq!(print(&laid_out(2, &events), limits), text);
+        let bad = laid_out(2, &[(0x000B_0003, 0), (0x000B_0003, 1)]);
         assert_eq!(print(&bad, limits), "refused 7 at 1\n");
-        let bad = laid_out(&[(0x000B_0003, 0), (0x000E_0000, 0)]);
+        let bad = laid_out(2, &[(0x000B_0003, 0), (0x000E_0000, 0)]);
         assert_eq!(print(&bad, limits), "refused 6 at 1\n");
     }
 }
@@ -516,9 +504,7 @@ end open 0 level 0 margin 0
 // Generated records.
 
 fn family(rounds: u64, limits: Limits) -> Vec<Vec<u8>> {
-    let (_, build) = FAMILIES.iter().find(|found| found.0 == "errors").unwrap();
-    let record = |round| build(&mut Random::for_index(1, round), limits);
-    (0..rounds).map(record).collect()
+    family_of("errors", rounds, limits)
 }
 
 /// The counters by a count of their own: threshold and count of each.
@@ -594,23 +580,6 @@ fn all_generated_records_count_as_the_model_does() {
         }
     }
     assert!(about > 10_000, "{about}");
-}
-
-/// What the records of the family met, by name.
-#[derive(Default)]
-struct Met {
-    times: BTreeMap<String, u32>,
-}
-
-impl Met {
-    fn count(&mut self, name: String) {
-        *self.times.entry(name).or_default() += 1;
-    }
-
-    fn at_least(&self, least: u32, name: &str) {
-        let times = self.times.get(name).copied().unwrap_or(0);
-        assert!(times >= least, "{name}: {times}");
-    }
 }
 
 /// What an error did to the selected bit.
@@ -804,18 +773,6 @@ fn the_family_meets_addresses_of_no_counter_and_of_no_csr() {
             }
         }
     }
-}
-
-/// The event at which a record of the family is refused with 6 or 7.
-fn refused_at(bytes: &[u8], limits: Limits) -> Option<(u32, Event)> {
-    let (number, place) = reading(bytes, limits)?;
-    let word = |place: usize| {
-        let four = bytes[4 * place..4 * place + 4].try_into().unwrap();
-        u32::from_le_bytes(four)
-    };
-    let head = word(2 + place);
-    let value = word(2 + word(0) as usize + place);
-    Some((number, Event { head, value }))
 }
 
 #[test]

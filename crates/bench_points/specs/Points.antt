@@ -173,15 +173,15 @@ refusalColumn [] = []
 refusalColumn (e ∷ es) = e .refusal ∷ refusalColumn es
 
 -- The rows of a list that are chainings in demand 3.
-abbrev pub isOne : Class → Bool
-isOne isTaking = false
-isOne isChaining = true
-isOne isReturn = false
-isOne isOther = false
+abbrev pub isChainingClass : Class → Bool
+isChainingClass isTaking = false
+isChainingClass isChaining = true
+isChainingClass isReturn = false
+isChainingClass isOther = false
 
 abbrev pub chainings : List Row → List Row
 chainings [] = []
-chainings (e ∷ es) = cond (isOne (classBy (kindOf (e .head)) (record { answer = e .answer; refusal = e .refusal }))) (e ∷ chainings es) (chainings es)
+chainings (e ∷ es) = cond (isChainingClass (classBy (kindOf (e .head)) (record { answer = e .answer; refusal = e .refusal }))) (e ∷ chainings es) (chainings es)
 
 -- The machine that power-on with N hands back.
 abbrev pub start : ℕ → Machine
@@ -889,7 +889,7 @@ pub record Points : Type 0 where
       ++ (look refused 19 ∷ commit 2 refused 19 ∷ commit 0 refused 19 ∷ mask 0 ∷ event 13 2 1 refused 7 ∷ commit 2 answers 8 ∷ []))
   -- An unopened handler, and its own source: the look answers it, and the commit serves it again. Base is that of the commit.
   pub commits-own : Plays 4 (threshold 4 ++ (take answers 8 ∷ look answers 2 ∷ csrWrite meivt 0x400 ∷ commit 2 answers 0x408 ∷ open-handler answers 5 ∷ []))
-  -- "The source of equals the lowest number": of sources 2 and 3 the look answers 2, and once the line of 2 falls, 3.
+  -- "Of equals the lowest number": of sources 2 and 3 the look answers 2, and once the line of 2 falls, 3.
   pub commits-equals :
       Plays 4
       (two-and-three

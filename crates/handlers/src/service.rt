@@ -252,7 +252,7 @@ impl Machine {
         self.serve(s)
     }
 
-    // A capture in the uppermost handler, of the source s alone.
+    // Question 26; then the winner, whose source is s, in the place of the uppermost handler's.
     fn serve(self, s: u32) -> Outcome
         ensures { λ r. ⌜ r ≡ committed self s ⌝ }
     {

@@ -6,7 +6,7 @@ use native.Mathlib.Omega.{arith}
 use lib.Seq.{getD-set-same}
 use lib.Dec.{eqb}
 use borrow.Author.Tests.{ltb-true, eq-eqb, ne-eqb}
-use Rattle.event.specs.Event.{kindOf, addressOf}
+use Rattle.event.specs.Event.{kindOf, addressOf, UsesNeither}
 use Rattle.event.proofs.Laws.{chain-shape, look-shape, commit-shape}
 use Rattle.pic_source.specs.Ranks.{rank}
 use Rattle.pic_laws.proofs.Sources.{count-most}
@@ -182,16 +182,13 @@ chain-commits m e = go (hasHandler m) refl (eqb (m .mask) 0) refl
 abbrev bare : Machine → Bool → Outcome → Outcome
 bare m seven o = soundFirst m (ask m (eqb (cond seven 0 7) 0) (cond seven 0 7) o)
 
-step-chain : (m : Machine) (a v : ℕ) → a < 65536 → stepOf m (headOf 7 a) v ≡ bare m (eqb a 0 && eqb v 0) (chainEvent m)
-unfolding stepOf soundStepOf eventOf
-step-chain m a v h = rw (chain-shape (headOf 7 a) v (kind-of 7 a h), kind-of 7 a h, address-of 7 a h)
-
-step-look : (m : Machine) (a v : ℕ) → a < 65536 → stepOf m (headOf 12 a) v ≡ bare m (eqb a 0 && eqb v 0) (lookEvent m)
-unfolding stepOf soundStepOf eventOf
-step-look m a v h = rw (look-shape (headOf 12 a) v (kind-of 12 a h), kind-of 12 a h, address-of 12 a h)
+step-bare : (m : Machine) (k a v : ℕ) → UsesNeither k → a < 65536 → stepOf m (headOf k a) v ≡ bare m (eqb a 0 && eqb v 0) (eventOf m k a v)
+unfolding stepOf soundStepOf
+step-bare m k a v u h = rw (u (headOf k a) v (kind-of k a h), kind-of k a h, address-of k a h)
 
 pub chain-is-look-then-commit : ChainIsLookThenCommit
-chain-is-look-then-commit m a v h = rw (step-chain m a v h, step-look m a v h) (go (soundOf m) refl (eqb a 0 && eqb v 0))
+unfolding eventOf
+chain-is-look-then-commit m a v h = rw (step-bare m 7 a v chain-shape h, step-bare m 12 a v look-shape h) (go (soundOf m) refl (eqb a 0 && eqb v 0))
   where
     go : (s : Bool) → soundOf m ≡ s → (seven : Bool)
         → ask m s 8 (ask m (eqb (cond seven 0 7) 0) (cond seven 0 7) (chainEvent m))

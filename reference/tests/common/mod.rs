@@ -2,6 +2,8 @@
 
 #![allow(dead_code)]
 
+pub mod records;
+
 use reference::event::*;
 use reference::machine::*;
 
