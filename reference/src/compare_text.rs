@@ -8,7 +8,7 @@ use crate::texts::{make, FAMILIES};
 /// How many texts came out in each way, in the order of `SORTS`.
 pub type Counts = [u64; SORTS.len()];
 
-pub const SORTS: [&str; 8] = [
+pub const SORTS: [&str; 9] = [
     "accepted",
     "more than 1,048,576 bytes",
     "not N",
@@ -17,6 +17,7 @@ pub const SORTS: [&str; 8] = [
     "refused 2",
     "refused 6",
     "refused 7",
+    "refused 27",
 ];
 
 /// The place in `SORTS` of what became of a text.
@@ -30,6 +31,7 @@ pub fn sort(result: &Result<Vec<u8>, Fault>) -> usize {
         Err(Fault::Question { refusal, .. }) => match refusal.number {
             2 => 5,
             6 => 6,
+            27 => 8,
             _ => 7,
         },
     }

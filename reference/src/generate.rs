@@ -5,7 +5,7 @@ use crate::event::*;
 use crate::machine::*;
 use crate::random::Random;
 use crate::rank::Rank;
-use crate::record::{lay_out, Limits, Record, BOARD, COMPACT};
+use crate::record::{bytes_of, lay_out, Limits, Record, BOARD, COMPACT};
 use crate::script::{choose_count, Script, Weights, EVEN};
 use crate::timer::*;
 use std::ops::RangeInclusive;
@@ -35,6 +35,7 @@ pub const FAMILIES: &[Family] = &[
     ("nesting, wandering", nesting_wandering),
     ("chains", chains),
     ("looks and commits", looks_and_commits),
+    ("old chains", old_chains),
     ("priority order", priority_order),
     ("mirror", mirror),
     ("fields", fields),
@@ -92,12 +93,6 @@ pub fn generate(seed: u64, index: u64, limits: Limits) -> Generated {
         family,
         bytes: build(&mut random, limits),
     }
-}
-
-fn bytes_of(record: &Record) -> Vec<u8> {
-    let heads: Vec<u32> = record.events.iter().map(|event| event.head).collect();
-    let values: Vec<u32> = record.events.iter().map(|event| event.value).collect();
-    lay_out(heads.len() as u32, record.sources, &heads, &values)
 }
 
 fn finish(script: Script) -> Vec<u8> {
@@ -1110,6 +1105,199 @@ fn committed_nesting(script: &mut Script, random: &mut Random) {
             }
             1 | 2 => script.look_and_commit(),
             _ => {}
+        }
+        script.give_back();
+        if random.chance(1, 24) {
+            break;
+        }
+    }
+}
+
+/// Chains as old records have them, served, in vain and refused, beside the looks and commits that
+/// came in their place.
+fn old_chains(random: &mut Random, limits: Limits) -> Vec<u8> {
+    let mut script = Script::new(random, limits);
+    if random.chance(1, 3) {
+        refused_chains(&mut script, random);
+    }
+    start_nesting(&mut script, random);
+    for _ in 0..random.between(3, 9) {
+        match random.below(8) {
+            0 => refused_chains(&mut script, random),
+            1..=3 => chained_in_turn(&mut script, random),
+            4 | 5 => chained_in_vain(&mut script, random),
+            6 => beside_chains(&mut script, random),
+            _ => chained_nesting(&mut script, random),
+        }
+        if random.chance(1, 3) {
+            script.set_mask(0);
+            script.give_back();
+            script.csr_read(MEICURPL);
+        }
+    }
+    match random.below(4) {
+        0 => script.unwind(),
+        1 => script.audit(),
+        _ => {}
+    }
+    let mut record = script.record();
+    if random.chance(1, 3) {
+        spoil_chain(&mut record, random);
+    }
+    bytes_of(&record)
+}
+
+/// Puts in a chain that the reader refuses for an unused part, or a kind that is 7 by its low bits.
+fn spoil_chain(record: &mut Record, random: &mut Random) {
+    let mut event = Event::new(CHAIN, 0, 0);
+    if random.chance(5, 6) {
+        use_unused(&mut event, random);
+        if random.chance(1, 4) {
+            event = Event::new(CHAIN, random.between(1, 0xFFFF), random.word());
+        }
+    } else {
+        event.head |= 1 << random.between(20, 31);
+    }
+    let last = record.events.len() as u32 - 1;
+    let any = random.between(0, last);
+    let place = random.pick(&[0, last, any, any]);
+    record.events[place as usize] = event;
+}
+
+/// A chain, a look or a commit, often of what a chain would serve.
+fn chain_look_or_commit(script: &mut Script, random: &mut Random) -> Outcome {
+    let (right, any) = (script.machine.chainable(), script.a_number());
+    match random.below(4) {
+        0 | 1 => script.chain(),
+        2 => script.look(),
+        _ => script.commit(random.pick(&[right, right, any])),
+    }
+}
+
+/// Refused with 17 or 19, whatever asks: nothing is captured.
+fn refused_chains(script: &mut Script, random: &mut Random) {
+    let handler = random.coin();
+    if handler {
+        if let Some(top) = uppermost(script, random) {
+            offer(script, random, &top);
+            if !top.opened {
+                script.open();
+            }
+        }
+    } else {
+        script.unwind();
+    }
+    for _ in 0..random.between(2, 4) {
+        script.set_mask(if handler { 1 } else { random.below(2) });
+        if random.coin() {
+            let (source, rank) = (script.a_source(), script.a_rank());
+            script.request(source, rank);
+        }
+        claim_otherwise(script, random);
+        chain_look_or_commit(script, random);
+        script.read_claim();
+    }
+}
+
+/// A handler goes on with source after source, by a chain, by a look and a commit, or by one after
+/// the other.
+fn chained_in_turn(script: &mut Script, random: &mut Random) {
+    let top = match masked_uppermost(script, random) {
+        Some(top) => top,
+        None => return,
+    };
+    for _ in 0..random.between(2, 6) {
+        let serving = script.machine.handlers.last().map(|top| top.source as u32);
+        if let Some(source) = serving.filter(|_| random.chance(3, 4)) {
+            script.quiet(source);
+        }
+        offer(script, random, &top);
+        claim_otherwise(script, random);
+        let right = script.machine.chainable();
+        match random.below(6) {
+            0 | 1 => {
+                script.chain();
+            }
+            2 => script.look_and_commit(),
+            3 => {
+                script.look();
+                script.chain();
+            }
+            4 => {
+                script.chain();
+                script.commit(right);
+            }
+            _ => {
+                script.commit(right);
+                script.chain();
+            }
+        }
+        script.read_claim();
+    }
+}
+
+/// A winner that no chain serves, or none. Of chain, look and commit only the chain captures, and
+/// it answers 0.
+fn chained_in_vain(script: &mut Script, random: &mut Random) {
+    for _ in 0..random.between(1, 4) {
+        let top = match masked_uppermost(script, random) {
+            Some(top) => top,
+            None => return,
+        };
+        offer(script, random, &top);
+        let source = script.a_source();
+        match random.below(5) {
+            0 => script.request(source, top.rank.higher()),
+            1 => {
+                hush(script);
+                script.request(source, top.rank.lower());
+            }
+            2 | 3 => script.set_threshold(random.pick(&[top.rank, top.rank.higher()])),
+            _ => hush(script),
+        }
+        for _ in 0..random.between(1, 3) {
+            claim_otherwise(script, random);
+            chain_look_or_commit(script, random);
+            script.read_claim();
+        }
+        claim_otherwise(script, random);
+        script.chain();
+        script.read_claim();
+        // Served after all.
+        if random.coin() {
+            offer(script, random, &top);
+            chain_or_commit(script, random);
+            script.read_claim();
+        }
+        script.set_threshold(random.rank(0, top.rank.lower().0));
+    }
+}
+
+/// Handlers of rising ranks, often fifteen, with a chain at most of them on the way up, before they
+/// are opened, and on the way down.
+fn chained_nesting(script: &mut Script, random: &mut Random) {
+    settle(script, random);
+    script.lower_bars();
+    for rank in rising_ranks(random) {
+        let source = script.a_source();
+        script.request(source, rank);
+        script.take();
+        if random.chance(1, 3) {
+            let other = script.a_source();
+            script.request(other, rank);
+            chain_or_commit(script, random);
+        }
+        script.open();
+    }
+    while !script.machine.handlers.is_empty() && !script.full() {
+        script.set_mask(0);
+        let top = script.machine.handlers.last().cloned();
+        if let Some(top) = top.filter(|_| random.coin()) {
+            offer(script, random, &top);
+        }
+        if random.chance(3, 4) {
+            chain_or_commit(script, random);
+            script.csr_read(MEIHAP);
         }
         script.give_back();
         if random.chance(1, 24) {

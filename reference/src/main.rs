@@ -1,5 +1,5 @@
-//! Commands: play, text, generate, compare, compare-text, listing, bench-record, and play-compact,
-//! generate-compact, compare-compact for the compact player.
+//! Commands: play, text, lay-out, generate, compare, compare-text, listing, bench-record, and
+//! play-compact, generate-compact, compare-compact for the compact player.
 
 use reference::compare::{compare, Comparison, Difference, Verdict};
 use reference::compare_text::compare_text;
@@ -7,7 +7,7 @@ use reference::generate::{bench_record, generate};
 use reference::player;
 use reference::program::Program;
 use reference::record::{listing, write_record, Limits, BOARD, COMPACT, MOST_EVENTS};
-use reference::text::{to_record, MOST_BYTES};
+use reference::text::{to_old_record, to_record, Fault, MOST_BYTES};
 use std::fs;
 use std::io::{self, Read, Write};
 use std::path::PathBuf;
@@ -17,6 +17,7 @@ const USAGE: &str = "\
 usage: reference play < RECORD
        reference play-compact < RECORD
        reference text < TEXT > RECORD
+       reference lay-out < TEXT > RECORD
        reference generate SEED INDEX OUTFILE
        reference generate-compact SEED INDEX OUTFILE
        reference compare PLAYER COUNT SEED [ARGUMENT OF PLAYER]...
@@ -33,7 +34,8 @@ fn main() -> ExitCode {
     let result = match words[..] {
         ["play"] => play(BOARD),
         ["play-compact"] => play(COMPACT),
-        ["text"] => text(),
+        ["text"] => text(to_record),
+        ["lay-out"] => text(to_old_record),
         ["generate", seed, index, file] => generate_file(seed, index, file, BOARD),
         ["generate-compact", seed, index, file] => generate_file(seed, index, file, COMPACT),
         ["compare", player, count, seed, ..] => {
@@ -89,9 +91,9 @@ fn play(limits: Limits) -> Result<ExitCode, Failure> {
     Ok(ExitCode::SUCCESS)
 }
 
-fn text() -> Result<ExitCode, Failure> {
+fn text(convert: fn(&[u8]) -> Result<Vec<u8>, Fault>) -> Result<ExitCode, Failure> {
     // One byte more than a text may have tells that it is too long.
-    match to_record(&input(MOST_BYTES as u64 + 1)?) {
+    match convert(&input(MOST_BYTES as u64 + 1)?) {
         Ok(record) => {
             say(&record)?;
             Ok(ExitCode::SUCCESS)

@@ -10,7 +10,7 @@ use std::fmt::Write;
 pub struct Tally {
     pub events: u64,
     /// How often each refusal number was printed.
-    pub refusals: [u64; 27],
+    pub refusals: [u64; 28],
     /// Accepted events by kind.
     pub accepted: [u64; KINDS as usize],
     pub chains_served: u64,

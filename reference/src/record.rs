@@ -1,6 +1,6 @@
 //! Reading and writing records: sizes, heads, values, all 32-bit little-endian.
 
-use crate::event::Event;
+use crate::event::{Event, CHAIN};
 
 /// The most events that a record holds.
 pub const MOST_EVENTS: usize = 4000;
@@ -53,10 +53,27 @@ fn word_at(bytes: &[u8], place: usize) -> u32 {
     u32::from_le_bytes([four[0], four[1], four[2], four[3]])
 }
 
-/// Questions 6 and 7, event by event.
-fn walk(events: &[Event]) -> Result<(), Refusal> {
-    for (place, event) in events.iter().enumerate() {
-        if let Err(number) = event.action() {
+/// What is asked of an event in a record: the number of the first question that it fails, or none.
+pub type Check = fn(Event) -> Result<(), u32>;
+
+/// The reader's check: questions 6 and 7.
+pub fn may_be_read(event: Event) -> Result<(), u32> {
+    event.action().map(|_| ())
+}
+
+/// The writer's check: question 6, then 27 for the retired kind, then 7.
+pub fn may_be_written(event: Event) -> Result<(), u32> {
+    match event.action() {
+        Err(6) => Err(6),
+        _ if event.kind() == CHAIN => Err(27),
+        asked => asked.map(|_| ()),
+    }
+}
+
+/// Asks event by event; the first that fails decides.
+fn walk(events: &[Event], check: Check) -> Result<(), Refusal> {
+    for (place, &event) in events.iter().enumerate() {
+        if let Err(number) = check(event) {
             return Err(Refusal { number, place });
         }
     }
@@ -95,12 +112,23 @@ pub fn read(bytes: &[u8], limits: Limits, room: usize) -> Result<Record, Refusal
             value: word_at(bytes, 2 + count + place),
         })
         .collect();
-    walk(&events)?;
+    walk(&events, may_be_read)?;
     Ok(Record { sources, events })
 }
 
 /// Writes a record; `room` is how many bytes the destination holds.
 pub fn write(sources: u32, heads: &[u32], values: &[u32], room: usize) -> Result<Vec<u8>, Refusal> {
+    write_by(may_be_written, sources, heads, values, room)
+}
+
+/// The same, with the check of the events as a parameter.
+pub fn write_by(
+    check: Check,
+    sources: u32,
+    heads: &[u32],
+    values: &[u32],
+    room: usize,
+) -> Result<Vec<u8>, Refusal> {
     if !(2..=255).contains(&sources) {
         return refuse(2);
     }
@@ -115,7 +143,7 @@ pub fn write(sources: u32, heads: &[u32], values: &[u32], room: usize) -> Result
     }
     let pairs = heads.iter().zip(values);
     let events: Vec<Event> = pairs.map(|(&head, &value)| Event { head, value }).collect();
-    walk(&events)?;
+    walk(&events, check)?;
     Ok(lay_out(heads.len() as u32, sources, heads, values))
 }
 
@@ -126,10 +154,20 @@ pub fn lay_out(count: u32, sources: u32, heads: &[u32], values: &[u32]) -> Vec<u
     words.flat_map(|word| word.to_le_bytes()).collect()
 }
 
+fn heads_and_values(record: &Record) -> (Vec<u32>, Vec<u32>) {
+    let events = record.events.iter();
+    events.map(|event| (event.head, event.value)).unzip()
+}
+
+/// The bytes of a whole record without any check. Old records, with kind 7, are made so.
+pub fn bytes_of(record: &Record) -> Vec<u8> {
+    let (heads, values) = heads_and_values(record);
+    lay_out(heads.len() as u32, record.sources, &heads, &values)
+}
+
 /// Writes a whole record.
 pub fn write_record(record: &Record) -> Result<Vec<u8>, Refusal> {
-    let heads: Vec<u32> = record.events.iter().map(|event| event.head).collect();
-    let values: Vec<u32> = record.events.iter().map(|event| event.value).collect();
+    let (heads, values) = heads_and_values(record);
     write(record.sources, &heads, &values, BOARD.longest())
 }
 

@@ -1,7 +1,9 @@
 //! The record of a text: a line for N in decimal, then one for each event, its head and value in
 //! hexadecimal.
 
-use crate::record::{self, Record, Refusal, BOARD, MOST_EVENTS};
+use crate::record::{
+    self, may_be_read, may_be_written, Check, Record, Refusal, BOARD, MOST_EVENTS,
+};
 use std::fmt;
 
 /// The most bytes that a text has.
@@ -37,6 +39,7 @@ impl fmt::Display for Fault {
                 let words = match number {
                     2 => "N is not 2 to 255",
                     6 => "the kind is not 0 to 13",
+                    27 => "kind 7 is no longer written: chain by look and commit, 12 and 13",
                     _ => "an address or a value that the kind does not use is not 0",
                 };
                 write!(text, "refused {number} at {place} (line {line}): {words}")
@@ -47,6 +50,15 @@ impl fmt::Display for Fault {
 
 /// The bytes of the record that a text makes.
 pub fn to_record(text: &[u8]) -> Result<Vec<u8>, Fault> {
+    convert(text, may_be_written)
+}
+
+/// The same for an old record, which may have kind 7.
+pub fn to_old_record(text: &[u8]) -> Result<Vec<u8>, Fault> {
+    convert(text, may_be_read)
+}
+
+fn convert(text: &[u8], check: Check) -> Result<Vec<u8>, Fault> {
     if text.len() > MOST_BYTES {
         return Err(Fault::TooLong);
     }
@@ -69,7 +81,8 @@ pub fn to_record(text: &[u8]) -> Result<Vec<u8>, Fault> {
         places.push(line);
     }
 
-    record::write(sources, &heads, &values, BOARD.longest()).map_err(|refusal| {
+    let written = record::write_by(check, sources, &heads, &values, BOARD.longest());
+    written.map_err(|refusal| {
         let line = match refusal.number {
             2 => first,
             _ => places[refusal.place],

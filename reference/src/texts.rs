@@ -1,6 +1,7 @@
 //! Test texts from a seed, in families.
 
-use crate::generate::{self, bad_kind, bare_event, small_record, turn, use_unused, with_events};
+use crate::event::*;
+use crate::generate::{self, bad_kind, bare_event, turn, use_unused};
 use crate::random::Random;
 use crate::record::{self, Record, BOARD};
 use crate::text::{canonical, MOST_BYTES};
@@ -30,6 +31,7 @@ pub const FAMILIES: &[Family] = &[
     ("unknown kind", unknown_kind),
     ("unused parts", unused_parts),
     ("several faults", several_faults),
+    ("retired", retired),
     ("nothing said", nothing_said),
     ("empty", empty),
     ("event counts", event_counts),
@@ -49,14 +51,37 @@ pub fn make(seed: u64, index: u64) -> Text {
 
 // Good texts.
 
-/// A record that is accepted, of any family.
+/// The record with a look or a commit in the place of every chain, which no text may have.
+fn unchained(mut record: Record, random: &mut Random) -> Record {
+    for event in &mut record.events {
+        if event.kind() == CHAIN {
+            let commit = Event::new(COMMIT, random.below(256), 0);
+            *event = random.pick(&[Event::new(LOOK, 0, 0), commit]);
+        }
+    }
+    record
+}
+
+/// A record that the writer accepts, of any family.
 fn any_record(random: &mut Random) -> Record {
     loop {
         let (_, build) = random.pick(generate::FAMILIES);
         if let Ok(record) = record::read(&build(random, BOARD), BOARD, BOARD.events) {
-            return record;
+            return unchained(record, random);
         }
     }
+}
+
+/// A few events or none.
+fn small_record(random: &mut Random) -> Record {
+    let record = generate::small_record(random, BOARD);
+    unchained(record, random)
+}
+
+/// One event or more.
+fn with_events(random: &mut Random) -> Record {
+    let record = generate::with_events(random, BOARD);
+    unchained(record, random)
 }
 
 fn plain(random: &mut Random) -> Vec<u8> {
@@ -64,7 +89,7 @@ fn plain(random: &mut Random) -> Vec<u8> {
 }
 
 fn dressed(random: &mut Random) -> Vec<u8> {
-    let record = small_record(random, BOARD);
+    let record = small_record(random);
     dress(&record, random)
 }
 
@@ -177,7 +202,7 @@ fn put_comment(text: &mut Vec<u8>, size: usize, random: &mut Random) {
 
 /// A good text of some events, plain or dressed.
 fn sound(random: &mut Random) -> Vec<u8> {
-    let record = with_events(random, BOARD);
+    let record = with_events(random);
     if random.coin() {
         canonical(&record)
     } else {
@@ -281,7 +306,7 @@ fn colons(random: &mut Random) -> Vec<u8> {
 
 /// Too many digits or none, signs, prefixes, and the bytes just beside the digits.
 fn digits(random: &mut Random) -> Vec<u8> {
-    let mut record = with_events(random, BOARD);
+    let mut record = with_events(random);
     let place = random.below(record.events.len() as u32) as usize;
     let event = &mut record.events[place];
     if random.coin() {
@@ -370,7 +395,7 @@ fn lines_moved(random: &mut Random) -> Vec<u8> {
 
 /// The end of the last line in all its forms.
 fn last_line(random: &mut Random) -> Vec<u8> {
-    let mut record = small_record(random, BOARD);
+    let mut record = small_record(random);
     if random.chance(1, 3) {
         record.events.clear();
     }
@@ -385,7 +410,7 @@ fn last_line(random: &mut Random) -> Vec<u8> {
 }
 
 fn wrong_sources(random: &mut Random) -> Vec<u8> {
-    let mut record = small_record(random, BOARD);
+    let mut record = small_record(random);
     record.sources = random.pick(&[0, 1, 2, 255, 256, 257, 999, 1000]);
     dress_or_not(&record, random)
 }
@@ -415,7 +440,7 @@ fn spoil_unused(record: &mut Record, random: &mut Random) {
 }
 
 fn unknown_kind(random: &mut Random) -> Vec<u8> {
-    let mut record = with_events(random, BOARD);
+    let mut record = with_events(random);
     for _ in 0..random.between(1, 2) {
         spoil_kind(&mut record, random);
     }
@@ -423,7 +448,7 @@ fn unknown_kind(random: &mut Random) -> Vec<u8> {
 }
 
 fn unused_parts(random: &mut Random) -> Vec<u8> {
-    let mut record = with_events(random, BOARD);
+    let mut record = with_events(random);
     // Of an unknown kind and a used unused part the earlier decides.
     if random.chance(1, 3) {
         spoil_kind(&mut record, random);
@@ -436,7 +461,7 @@ fn unused_parts(random: &mut Random) -> Vec<u8> {
 
 /// Faults of the record and bad lines in one text.
 fn several_faults(random: &mut Random) -> Vec<u8> {
-    let mut record = with_events(random, BOARD);
+    let mut record = with_events(random);
     if random.coin() {
         spoil_kind(&mut record, random);
     }
@@ -452,6 +477,110 @@ fn several_faults(random: &mut Random) -> Vec<u8> {
         text[place] = a_byte(random);
     }
     text
+}
+
+/// Kind 7, which is refused with 27, alone or beside another fault, and what only looks like it.
+fn retired(random: &mut Random) -> Vec<u8> {
+    let mut record = with_events(random);
+    match random.below(12) {
+        // Nothing retired.
+        0..=2 => put_events(&mut record, NEARLY_RETIRED, random),
+        // The first of all faults decides.
+        3..=5 => {
+            put_events(&mut record, NEARLY_RETIRED_AND_WRONG, random);
+            put_chains(&mut record, random);
+        }
+        // N comes before the events.
+        6 => {
+            record.sources = random.pick(&[0, 1, 256, 999]);
+            put_chains(&mut record, random);
+        }
+        7 | 8 => {
+            put_events(&mut record, NEARLY_RETIRED, random);
+            put_chains(&mut record, random);
+        }
+        _ => put_chains(&mut record, random),
+    }
+    let mut text = dress_or_not(&record, random);
+    if random.chance(1, 12) {
+        let place = a_place(&text, random);
+        text[place] = a_byte(random);
+    }
+    text
+}
+
+/// Heads and values that could be taken for kind 7, of kinds that the writer takes.
+const NEARLY_RETIRED: &[(u32, u32)] = &[
+    (0x0000_0007, 0),
+    (0x0000_0070, 0),
+    (0x0000_0700, 7),
+    (0x0000_7000, 0),
+    (0x0000_0000, 0x0007_0000),
+    (0x0001_7000, 0),
+    (0x0002_0007, 0x0007_0000),
+    (0x0003_7000, 0),
+    (0x0004_0BC9, 7),
+    (0x0006_0000, 0),
+    (0x0008_0000, 0),
+    (0x0009_0000, 7),
+    (0x0009_0000, 0x0007_0000),
+    (0x000B_0007, 0),
+    (0x000C_0000, 0),
+    (0x000D_0007, 0),
+    (0x000D_7000, 0),
+];
+
+/// The same, refused with 6 or 7.
+const NEARLY_RETIRED_AND_WRONG: &[(u32, u32)] = &[
+    (0x0070_0000, 0),
+    (0x0700_0000, 0),
+    (0x7000_0000, 0),
+    (0x0017_0000, 0),
+    (0x0107_0000, 0),
+    (0x8007_0000, 0),
+    (0xFFF7_0007, 7),
+    (0x000E_0007, 0),
+    (0x0001_0000, 7),
+    (0x0003_0BC9, 0x0007_0000),
+    (0x0005_0007, 0),
+    (0x0006_0007, 0),
+    (0x0006_0000, 7),
+    (0x0008_0007, 0),
+    (0x0008_0000, 7),
+    (0x0009_7000, 0),
+    (0x000C_0007, 0),
+    (0x000C_0000, 0x0007_0000),
+    (0x000D_0007, 7),
+];
+
+/// Puts in an event, often the first or the last.
+fn put_event(record: &mut Record, event: Event, random: &mut Random) {
+    let after = record.events.len() as u32;
+    let any = random.between(0, after);
+    let place = random.pick(&[0, after, any, any]);
+    record.events.insert(place as usize, event);
+}
+
+fn put_events(record: &mut Record, choices: &[(u32, u32)], random: &mut Random) {
+    for _ in 0..random.between(1, 3) {
+        let (head, value) = random.pick(choices);
+        put_event(record, Event { head, value }, random);
+    }
+}
+
+/// One chain or more, in half of the texts with an address, a value or both.
+fn put_chains(record: &mut Record, random: &mut Random) {
+    let bare = random.coin();
+    for _ in 0..random.pick(&[1, 1, 2, 3]) {
+        let (mut address, mut value) = (0, 0);
+        if !bare {
+            let any = random.between(1, 0xFFFF);
+            address = random.pick(&[0, 0, 1, 7, 0xFFFF, any]);
+            let any = random.word() >> random.below(32);
+            value = random.pick(&[0, 0, 1, 0x8000_0000, any]);
+        }
+        put_event(record, Event::new(CHAIN, address, value), random);
+    }
 }
 
 /// Lines that are all skipped.
@@ -478,7 +607,7 @@ fn empty(random: &mut Random) -> Vec<u8> {
 /// About as many events as a record holds.
 fn event_counts(random: &mut Random) -> Vec<u8> {
     let count = random.pick(&[3999, 4000, 4000, 4001, 4002]);
-    let some = with_events(random, BOARD);
+    let some = with_events(random);
     let mut record = Record {
         sources: some.sources,
         events: some.events.iter().copied().cycle().take(count).collect(),

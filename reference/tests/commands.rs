@@ -311,6 +311,43 @@ fn text_writes_the_record_or_the_message() {
 }
 
 #[test]
+fn lay_out_makes_old_records_of_texts() {
+    let folder = folder("lay-out");
+    let old = b"4\n50000:0\n70000:0 # chain\n";
+    let output = run(&folder, &["text"], old);
+    let words = "kind 7 is no longer written: chain by look and commit, 12 and 13";
+    ended(&output, 1, &format!("refused 27 at 1 (line 3): {words}\n"));
+    assert!(output.stdout.is_empty());
+    let output = run(&folder, &["lay-out"], old);
+    ended(&output, 0, "");
+    let record = lay_out(2, 4, &[0x0005_0000, 0x0007_0000], &[0, 0]);
+    assert_eq!(output.stdout, record);
+    let printed = run(&folder, &["play"], &record).stdout;
+    let lines = "sources 4 events 2\n0 5 0 15\n1 7 0 17\nend open 0 level 0 margin 0\n";
+    assert_eq!(String::from_utf8(printed).unwrap(), lines);
+    // All else is as it was.
+    for text in [&b"4\n50000;0\n"[..], b"1\n70000:0", b"4\n70000:0\ne0000:0"] {
+        let output = run(&folder, &["lay-out"], text);
+        assert_eq!(output.status.code(), Some(1));
+        assert!(output.stdout.is_empty());
+    }
+    let output = run(&folder, &["lay-out"], b"4\n0:0\n70001:0");
+    let words = "an address or a value that the kind does not use is not 0";
+    ended(&output, 1, &format!("refused 7 at 1 (line 3): {words}\n"));
+}
+
+#[test]
+fn a_converter_that_takes_kind_7_is_different() {
+    let folder = folder("kind 7");
+    let arguments = ["compare-text", PROGRAM, "400", "1", "lay-out"];
+    let output = run(&folder, &arguments, b"");
+    ended(&output, 1, "");
+    let text = String::from_utf8(output.stdout).unwrap();
+    assert!(text.contains(", family retired: different\n"), "{text}");
+    assert!(text.contains("\n  reference \"refused 27 at "), "{text}");
+}
+
+#[test]
 fn its_own_converter_is_alike() {
     let comparison = Comparison {
         program: Program {

@@ -5,7 +5,7 @@ use reference::generate::{bench_record, generate, FAMILIES};
 use reference::machine::Machine;
 use reference::player::{self, Tally};
 use reference::random::Random;
-use reference::record::{self, Record, BOARD};
+use reference::record::{self, Record, Refusal, BOARD};
 use reference::timer::{Timer, MITCTL, TIMER_CSRS};
 
 /// Enough for every family several times.
@@ -48,7 +48,8 @@ fn every_refusal_of_a_player_occurs() {
     }
     // The player's arrays hold any record, and its machine is sound. It takes every N and n that
     // pass questions 2 and 3.
-    for number in [5, 8, 22, 23] {
+    // Only the writer has 27.
+    for number in [5, 8, 22, 23, 27] {
         assert_eq!(all.refusals[number], 0, "refusal {number}");
     }
     assert!(all.accepted.iter().all(|&times| times > 100));
@@ -217,15 +218,25 @@ fn half_of_the_flipped_and_noisy_records_play() {
 
 #[test]
 fn a_record_survives_reading_and_writing() {
-    let mut good = 0;
+    let (mut new, mut old) = (0, 0);
     for index in 0..RECORDS {
         let bytes = generate(3, index, BOARD).bytes;
         if let Ok(record) = record::read(&bytes, BOARD, 4000) {
-            assert_eq!(record::write_record(&record).unwrap(), bytes);
-            good += 1;
+            assert_eq!(record::bytes_of(&record), bytes);
+            let written = record::write_record(&record);
+            match record.events.iter().position(|event| event.kind() == CHAIN) {
+                None => {
+                    assert_eq!(written.unwrap(), bytes);
+                    new += 1;
+                }
+                Some(place) => {
+                    assert_eq!(written, Err(Refusal { number: 27, place }));
+                    old += 1;
+                }
+            }
         }
     }
-    assert!(good > FAMILIES.len());
+    assert!(new > FAMILIES.len() && old > FAMILIES.len());
 }
 
 #[test]

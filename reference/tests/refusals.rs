@@ -3,7 +3,7 @@
 mod common;
 
 use common::*;
-use reference::event::{CLOCK, COMMIT, LOOK};
+use reference::event::{CHAIN, CLOCK, COMMIT, LOOK};
 use reference::machine::*;
 use reference::rank::{Field, Rank};
 use reference::record::{self, lay_out, Refusal, BOARD};
@@ -107,7 +107,9 @@ fn records_6_and_7_with_their_places() {
     ] {
         let (heads, values) = ([good, head, 0xFFFF_0000], [0, value, 1]);
         assert_eq!(reading(&lay_out(3, 2, &heads, &values)), Some((number, 1)));
-        assert_eq!(writing(2, &heads, &values, 100), Some((number, 1)));
+        // The writer takes no chain at all.
+        let written = if head >> 16 == CHAIN { 27 } else { number };
+        assert_eq!(writing(2, &heads, &values, 100), Some((written, 1)));
         assert_eq!(
             machine(2).play(reference::event::Event { head, value }),
             refused(number)

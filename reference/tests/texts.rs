@@ -1,12 +1,13 @@
 //! The rules of the text form, and generated texts.
 
 use reference::compare_text::{sort, SORTS};
-use reference::event::Event;
+use reference::event::{Event, CHAIN};
 use reference::generate;
 use reference::random::Random;
-use reference::record::{self, lay_out, listing, write_record, Record, BOARD};
-use reference::text::{canonical, to_record, MOST_BYTES};
+use reference::record::{self, lay_out, listing, write_record, Record, Refusal, BOARD};
+use reference::text::{canonical, to_old_record, to_record, Fault, MOST_BYTES};
 use reference::texts::{dress, make, FAMILIES};
+use std::ops::RangeInclusive;
 
 /// The record of a text, or the message.
 fn result(text: &[u8]) -> Result<Vec<u8>, String> {
@@ -255,19 +256,47 @@ fn a_text_has_at_most_1048576_bytes() {
     not_n(&vec![b'\n'; MOST_BYTES], MOST_BYTES + 1);
 }
 
+/// No record is written of an old text.
+fn refused_27(text: &[u8], place: usize, lines: RangeInclusive<usize>) {
+    match to_record(text) {
+        Err(Fault::Question { refusal, line }) => {
+            assert_eq!(refusal, Refusal { number: 27, place });
+            assert!(lines.contains(&line), "{line}");
+        }
+        other => panic!("{other:?}"),
+    }
+}
+
+fn first_chain(record: &Record) -> Option<usize> {
+    record.events.iter().position(|event| event.kind() == CHAIN)
+}
+
 #[test]
 fn a_text_makes_its_record_however_it_is_dressed() {
     let mut random = Random::new(11);
-    let mut records = 0;
+    let (mut records, mut new) = (0, 0);
     for index in 0..4 * generate::FAMILIES.len() as u64 {
         let bytes = generate::generate(11, index, BOARD).bytes;
         if let Ok(record) = record::read(&bytes, BOARD, 4000) {
-            assert_eq!(to_record(&canonical(&record)), Ok(bytes.clone()));
-            assert_eq!(to_record(&dress(&record, &mut random)), Ok(bytes));
+            let (plain, dressed) = (canonical(&record), dress(&record, &mut random));
+            assert_eq!(to_old_record(&plain), Ok(bytes.clone()));
+            assert_eq!(to_old_record(&dressed), Ok(bytes.clone()));
             records += 1;
+            match first_chain(&record) {
+                None => {
+                    assert_eq!(to_record(&plain), Ok(bytes.clone()));
+                    assert_eq!(to_record(&dressed), Ok(bytes));
+                    new += 1;
+                }
+                Some(place) => {
+                    refused_27(&plain, place, place + 2..=place + 2);
+                    refused_27(&dressed, place, place + 2..=usize::MAX);
+                }
+            }
         }
     }
     assert!(records > 2 * generate::FAMILIES.len());
+    assert!(new > generate::FAMILIES.len() / 2, "{new}");
     let empty = Record {
         sources: 2,
         events: Vec::<Event>::new(),

@@ -34,14 +34,14 @@ use Rattle.claims.specs.Play.{endOf, eachOf}
 use Rattle.digits.specs.Digits.{digitsTo}
 use Rattle.record.specs.Words.{wordsOf, bytesOfWords}
 use Rattle.record.specs.Record.{recordOf}
-use Rattle.record.specs.Questions.{readVerdict, walkFrom}
+use Rattle.record.specs.Questions.{writeShapeOf, walkFrom, readVerdict, writeVerdict}
 use Rattle.digits.specs.Ascii.{ascii}
 use Rattle.playback.specs.Print.{eventLines, printOf, compactPrintOf, printWithin}
-use Rattle.bench_points.specs.Points.{Points, Plays, Holds, after, handler, listing-text, fifteen-up, fifteen-down, fifteen-handlers, three-fields, high-first, low-first, both-back, with-meicurpl, erring-up, erring-down, _answers_, csrRead, commit, meihap, stale}
+use Rattle.bench_points.specs.Points.{Points, Plays, Holds, after, handler, listing-text, fifteen-up, fifteen-down, fifteen-handlers, three-fields, high-first, low-first, both-back, with-meicurpl, erring-up, erring-down, _answers_, csrRead, commit, return, meihap, stale, served-15, recorded}
 
 -- To unfold this is to unfold every rule.
 rules : Unit {0}
-unfolding printWithin eventLines ascii digitsTo readVerdict walkFrom wordsOf bytesOfWords endOf eachOf stepOf soundStepOf eventOf sampleEvent loadEvent storeEvent csrReadEvent controllerWrite csrWriteEvent takeEvent openEvent chainEvent returnEvent setMaskEvent clockEvent clockOf errorEvent errorOf lookEvent lookOf commitEvent commitOf marginAnswer soundOf handlersSound handlerSound belowOf levelOf powerOnOf shapeOf calls.powerOnOf calls.sourceCount calls.priorityOrder calls.currentRank calls.setCurrent calls.meihapOf calls.captureOf calls.lookOf registers.sampleOf registers.loadOf registers.storeOf csrs.csrReadOf csrs.csrWriteOf sound.soundOf sound.sourcesSound sourceSound isPending isEligible entryOf betterOf winnerTo passing halvesTo higherOf differenceOf joinOf wordTo placesTo sourceRegister pageRegister offsetRefusal readOf writtenOf csrAt csrValue csrWritten mirror closedForm timers.timerAt timers.withTimer timers.timerSound timers.nextCount timers.clockOf errors.heldOf errors.errorSound errors.counted errors.selectedBit errors.errorAt errors.withError errors.errorsSound errors.errorOf whole.resetCounters whole.soundOf counters.csrOf counters.csrAt counters.csrValue counters.csrWritten
+unfolding printWithin eventLines ascii digitsTo readVerdict writeVerdict writeShapeOf walkFrom wordsOf bytesOfWords endOf eachOf stepOf soundStepOf eventOf sampleEvent loadEvent storeEvent csrReadEvent controllerWrite csrWriteEvent takeEvent openEvent chainEvent returnEvent setMaskEvent clockEvent clockOf errorEvent errorOf lookEvent lookOf commitEvent commitOf marginAnswer soundOf handlersSound handlerSound belowOf levelOf powerOnOf shapeOf calls.powerOnOf calls.sourceCount calls.priorityOrder calls.currentRank calls.setCurrent calls.meihapOf calls.captureOf calls.lookOf registers.sampleOf registers.loadOf registers.storeOf csrs.csrReadOf csrs.csrWriteOf sound.soundOf sound.sourcesSound sourceSound isPending isEligible entryOf betterOf winnerTo passing halvesTo higherOf differenceOf joinOf wordTo placesTo sourceRegister pageRegister offsetRefusal readOf writtenOf csrAt csrValue csrWritten mirror closedForm timers.timerAt timers.withTimer timers.timerSound timers.nextCount timers.clockOf errors.heldOf errors.errorSound errors.counted errors.selectedBit errors.errorAt errors.withError errors.errorsSound errors.errorOf whole.resetCounters whole.soundOf counters.csrOf counters.csrAt counters.csrValue counters.csrWritten
 rules = tt
 
 -- The whole print and the long list apart from the table, since what one declaration may compute is limited.
@@ -92,6 +92,12 @@ commits-stale = (refl, refl)
 errors-nested : Plays 4 (erring-up ++ erring-down)
 unfolding rules
 errors-nested = (refl, refl)
+
+retired-print :
+    printOf (recorded (served-15 ++ (return answers 0 ∷ [])))
+    ≡ ascii "sources 4 events 12\n0 2 0 0\n1 2 0 0\n2 2 0 0\n3 2 0 0\n4 0 0 0\n5 9 0 0\n6 5 4 0\n7 6 15 0\n8 0 0 0\n9 9 0 0\n10 7 8 0\n11 8 0 0\nend open 0 level 0 margin 15\n"
+unfolding rules
+retired-print = refl
 
 pub points : Points
 unfolding rules
@@ -230,4 +236,15 @@ points =
       commits-print = refl;
       looks-unsound = refl;
       commits-unsound = refl;
+      retired-27 = refl;
+      retired-before-7 = refl;
+      retired-after-7 = refl;
+      retired-after-6 = refl;
+      retired-after-5 = refl;
+      retired-others = refl;
+      retired-k10 = refl;
+      retired-k10-committed = refl;
+      retired-read = refl;
+      retired-read-7 = refl;
+      retired-print = retired-print;
     }

@@ -1,7 +1,7 @@
 -- Document 01, "Bench points K1 to K10", the ends of the margin, the listing of "The player", a list that nests fifteen handlers, and the timers, the mirror, the
--- compact reader, the fields, the error counters, the comparator tree, looks and commits of document 02: one table about the rules. A point is a list of events played from power-on,
+-- compact reader, the fields, the error counters, the comparator tree, looks and commits, the retired kind of document 02: one table about the rules. A point is a list of events played from power-on,
 -- each event with what it must answer or be refused with, and what the machine must hold after it, or what passes at the root of a tree over its sources; or bytes, and
--- what a reader or a player must answer.
+-- what a reader or a player must answer; or heads and values, and what the writer must.
 use Prim.Native.Nat.{ℕ, zero, suc, _+_, _*_, _%_, _^_, _≤_}
 use Prim.Native.String.{String}
 use mathlib.Core.Path.{_≡_}
@@ -34,7 +34,7 @@ use Rattle.claims.specs.Play.{endOf, answersOf, refusalsOf}
 use Rattle.claims.specs.Nested.{classBy}
 use Rattle.record.specs.declared.Verdict.{Verdict}
 use Rattle.record.specs.Record.{recordOf}
-use Rattle.record.specs.Questions.{verdict, noRefusal, boardVerdict, compactVerdict}
+use Rattle.record.specs.Questions.{verdict, noRefusal, boardVerdict, compactVerdict, writeVerdict}
 use Rattle.record.specs.Words.{bytesOfWords}
 use Rattle.digits.specs.Ascii.{ascii}
 use Rattle.playback.specs.Print.{endLine, printOf, compactPrintOf}
@@ -581,6 +581,13 @@ other-rank r =
     ∷ csrRead meihap answers 8
     ∷ []
 
+-- The record of a list, N 4, and what the writer answers to heads and values, N 4, with room for twelve events.
+abbrev pub recorded : List Row → List ℕ
+recorded es = recordOf 4 (headColumn es) (valueColumn es)
+
+abbrev pub writing : List ℕ → List ℕ → Verdict
+writing heads values = writeVerdict 4 heads values 104
+
 -- The table.
 pub record Points : Type 0 where
   -- K1, as document 02, No. 4, changes it: "field 5, priord set, reads 5, rank 10".
@@ -901,3 +908,22 @@ pub record Points : Type 0 where
   -- A machine that is not sound.
   pub looks-unsound : lookOf (controlled 8) ≡ record { machine = controlled 8; answer = 0; refusal = 8 }
   pub commits-unsound : commitOf (controlled 8) 0 ≡ record { machine = controlled 8; answer = 0; refusal = 8 }
+  -- "27 when the writer is given kind 7, after question 6 at that event", with the place of the first such event;
+  pub retired-27 : writing (0x50000 ∷ 0x70000 ∷ 0x70000 ∷ []) (0 ∷ 0 ∷ 0 ∷ []) ≡ verdict 27 1
+  -- before question 7 at that event, whatever its address and value, and before all questions of the events after it,
+  pub retired-before-7 : writing (0x7FFFF ∷ 0xE0000 ∷ []) (1 ∷ 0 ∷ []) ≡ verdict 27 0
+  -- after those of the events before it, and after questions 2 to 5.
+  pub retired-after-7 : writing (0x50001 ∷ 0x70000 ∷ []) (0 ∷ 0 ∷ []) ≡ verdict 7 0
+  pub retired-after-6 : writing (0xE0000 ∷ 0x70000 ∷ []) (0 ∷ 0 ∷ []) ≡ verdict 6 0
+  pub retired-after-5 : writeVerdict 4 (0x70000 ∷ []) (0 ∷ []) 15 ≡ verdict 5 0
+  -- The kinds beside it, look and commit, and a 7 elsewhere are written as before.
+  pub retired-others : writing (0x60000 ∷ 0x80000 ∷ 0xC0000 ∷ 0xD0007 ∷ 0x00007 ∷ []) (0 ∷ 0 ∷ 0 ∷ 0 ∷ 7 ∷ []) ≡ noRefusal
+  -- K10 with its chain is refused at that chain; by look and commit it is written.
+  pub retired-k10 : writing (headColumn served-15) (valueColumn served-15) ≡ verdict 27 10
+  pub retired-k10-committed : writing (headColumn committed-15) (valueColumn committed-15) ≡ noRefusal
+  -- "Old records with kind 7 are still read and played as before": 6 and 7 are asked of them, and no 27.
+  pub retired-read : boardVerdict (recorded served-15) ≡ noRefusal
+  pub retired-read-7 : boardVerdict (recordOf 4 (0x70000 ∷ 0x7FFFF ∷ []) (0 ∷ 1 ∷ [])) ≡ verdict 7 1
+  pub retired-print :
+      printOf (recorded (served-15 ++ (return answers 0 ∷ [])))
+      ≡ ascii "sources 4 events 12\n0 2 0 0\n1 2 0 0\n2 2 0 0\n3 2 0 0\n4 0 0 0\n5 9 0 0\n6 5 4 0\n7 6 15 0\n8 0 0 0\n9 9 0 0\n10 7 8 0\n11 8 0 0\nend open 0 level 0 margin 15\n"

@@ -1,4 +1,4 @@
--- Laws of records: words and bytes, the walk, the questions, the places of the arrays, the answers, what was read, input that is too long, two readers beside one another; the listing as a point.
+-- Laws of records: words and bytes, the walk, the questions, the places of the arrays, the answers, what was read, input that is too long, two readers beside one another, the writer beside the reader; the listing as a point.
 pub mod Words
 pub mod Walk
 pub mod Questions
@@ -7,4 +7,5 @@ pub mod Answers
 pub mod Parts
 pub mod TooLong
 pub mod Readers
+pub mod Retired
 pub mod Points

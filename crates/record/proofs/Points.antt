@@ -7,7 +7,7 @@ use Rattle.event.specs.Event.{shapeOf}
 use Rattle.event.specs.Listing.{listingSources, listingHeads, listingValues}
 use Rattle.record.specs.Words.{wordsOf, bytesOfWords}
 use Rattle.record.specs.Record.{board, compact, recordOf, countOf, sourcesOf, headsOf, valuesOf}
-use Rattle.record.specs.Questions.{walkFrom, readVerdict, writeVerdict}
+use Rattle.record.specs.Questions.{writeShapeOf, walkFrom, readVerdict, writeVerdict}
 use Rattle.record.specs.Answers.{doneWith, refusedAt, readAnswer, writeAnswer}
 
 -- The 88 bytes: n and N, ten heads, ten values; a word to a line.
@@ -62,7 +62,7 @@ listing-values = refl
 
 -- Written into 88 bytes.
 pub listing-written : writeAnswer listingSources listingHeads listingValues 88 ≡ doneWith (88 ∷ [])
-unfolding writeVerdict walkFrom shapeOf
+unfolding writeVerdict walkFrom writeShapeOf shapeOf
 listing-written = refl
 
 -- Read into arrays of ten places.

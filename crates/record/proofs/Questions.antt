@@ -11,7 +11,7 @@ use Rattle.event.specs.Event.{shapeOf}
 use Rattle.record.specs.declared.Limits.{Limits}
 use Rattle.record.specs.declared.Verdict.{Verdict}
 use Rattle.record.specs.Record.{countOf, sourcesOf, headsOf, valuesOf, wordsFrom, lengthOf, mostSources, mostEvents}
-use Rattle.record.specs.Questions.{verdict, noRefusal, question, sourcesInRange, sourcesTaken, countInRange, countTaken, arraysHold, walk, readVerdict, verdictWithin, writeVerdict}
+use Rattle.record.specs.Questions.{verdict, noRefusal, question, sourcesInRange, sourcesTaken, countInRange, countTaken, arraysHold, writeShapeOf, walk, readVerdict, verdictWithin, writeVerdict}
 use Rattle.record.proofs.Walk.{walk-first}
 
 -- Questions 2, 22, 3 and 23 by their answers, and then others.
@@ -154,7 +154,7 @@ pub record Writable (sources : ℕ) (heads values : List ℕ) (space : ℕ) : Ty
   pub few : length heads ≤ mostEvents
   pub same : length heads ≡ length values
   pub holds : lengthOf (length heads) ≤ space
-  pub events : walk shapeOf heads values .refusal ≡ 0
+  pub events : walk writeShapeOf heads values .refusal ≡ 0
 
 pub writable : (sources : ℕ) (heads values : List ℕ) (space : ℕ) → writeVerdict sources heads values space .refusal ≡ 0
     → Writable sources heads values space
@@ -180,12 +180,12 @@ later : (n k : ℕ) (answer : Bool) (next : Verdict) → k < 6 → (answer ≡ t
 later n k true next h f six = f refl six
 later n k false next h f six = absurd (omega arith)
 
-walk-place : (heads values : List ℕ) → length heads ≡ length values → 6 ≤ walk shapeOf heads values .refusal → walk shapeOf heads values .place < length heads
-walk-place heads values same six = walk-first shapeOf heads values same (λ z. omega arith) .inside
+walk-place : (heads values : List ℕ) → length heads ≡ length values → 6 ≤ walk writeShapeOf heads values .refusal → walk writeShapeOf heads values .place < length heads
+walk-place heads values same six = walk-first writeShapeOf heads values same (λ z. omega arith) .inside
 
 module _ (sources : ℕ) (heads values : List ℕ) (space : ℕ) where
   abbrev from-5 : Verdict
-  from-5 = question 5 (leb (lengthOf (length heads)) space) (walk shapeOf heads values)
+  from-5 = question 5 (leb (lengthOf (length heads)) space) (walk writeShapeOf heads values)
 
   abbrev from-4 : Verdict
   from-4 = question 4 (eqb (length heads) (length values)) from-5
@@ -199,7 +199,7 @@ module _ (sources : ℕ) (heads values : List ℕ) (space : ℕ) where
       later (length heads) 2 (sourcesInRange sources) from-3 (lit< tt) (λ two.
       later (length heads) 3 (countInRange (length heads)) from-4 (lit< tt) (λ three.
       later (length heads) 4 (eqb (length heads) (length values)) from-5 (lit< tt) (λ four.
-      later (length heads) 5 (leb (lengthOf (length heads)) space) (walk shapeOf heads values) (lit< tt) (λ five. walk-place heads values (eqb-true _ _ four)))))
+      later (length heads) 5 (leb (lengthOf (length heads)) space) (walk writeShapeOf heads values) (lit< tt) (λ five. walk-place heads values (eqb-true _ _ four)))))
 
 -- Arrays that have a place for each event that the reader takes.
 pub own-arrays : (limits : Limits) (bytes : List ℕ) {a b : ℕ} → a ≡ limits .events → b ≡ limits .events → readVerdict limits bytes a b ≡ verdictWithin limits bytes

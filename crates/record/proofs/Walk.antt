@@ -145,3 +145,21 @@ walk-first check hs vs e h =
     let f = fault-from check 0 hs vs e h in
     let at : walk check hs vs .place ≡ f .index = f .place ∙ zero-add (f .index) in
     record { inside = rw at (f .inside); number = rw at (f .number); least = rw at (f .least) }
+
+-- An event that fails, after others that do not: the walk ends there.
+ends-from : (check : ℕ → ℕ → ℕ) (i : ℕ) (hs vs : List ℕ) (p q : ℕ) → length hs ≡ length vs → p < length hs → checkAt check hs vs p ≡ suc q
+    → ((j : ℕ) → j < p → checkAt check hs vs j ≡ 0) → walkFrom check i hs vs ≡ verdict (suc q) (i + p)
+unfolding walkFrom
+ends-from check i [] vs p q e l z h = absurd (omega arith)
+ends-from check i (x ∷ hs) [] p q e l z h = absurd (omega arith)
+ends-from check i (x ∷ hs) (y ∷ vs) zero q e l z h = rw (z, ne-eqb (suc q) 0 (suc-ne-zero q), add-zero i)
+ends-from check i (x ∷ hs) (y ∷ vs) (suc p) q e l z h =
+    let e′ : length hs ≡ length vs = omega arith in
+    let l′ : p < length hs = omega arith in
+    let first : 0 < suc p = omega arith in
+    rw (h 0 first, add-suc i p, ← suc-add i p)
+    (ends-from check (suc i) hs vs p q e′ l′ z (λ j k. let k′ : suc j < suc p = omega arith in h (suc j) k′))
+
+pub walk-ends : (check : ℕ → ℕ → ℕ) (hs vs : List ℕ) (p q : ℕ) → length hs ≡ length vs → p < length hs → checkAt check hs vs p ≡ suc q
+    → ((j : ℕ) → j < p → checkAt check hs vs j ≡ 0) → walk check hs vs ≡ verdict (suc q) p
+walk-ends check hs vs p q e l z h = rw (zero-add p) at (ends-from check 0 hs vs p q e l z h)

@@ -4,3 +4,4 @@ pub mod Record
 pub mod Questions
 pub mod Answers
 pub mod Readers
+pub mod Retired

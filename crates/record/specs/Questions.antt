@@ -1,10 +1,10 @@
--- Document 01, "Questions, first no decides": 1 to 7, reading and writing; document 02, No. 3: 22 and 23, reading.
+-- Document 01, "Questions, first no decides": 1 to 7, reading and writing; document 02, No. 3: 22 and 23, reading; No. 8: 27, writing.
 use Prim.Native.Nat.{ℕ, suc}
 use mathlib.Core.Bool.{Bool, _&&_, cond}
 use mathlib.Core.List.{List, [], _∷_}
 use lib.ListN.{length}
 use lib.Dec.{leb, eqb}
-use Rattle.event.specs.Event.{shapeOf}
+use Rattle.event.specs.Event.{kindOf, isKind, shapeOf}
 use Rattle.record.specs.declared.Limits.{Limits}
 use Rattle.record.specs.declared.Verdict.{Verdict}
 use Rattle.record.specs.Record.{countOf, sourcesOf, headsOf, valuesOf, lengthOf, board, compact, mostSources, mostEvents}
@@ -45,6 +45,14 @@ countTaken limits n = leb n (limits .events)
 abbrev pub arraysHold : ℕ → ℕ → ℕ → Bool
 arraysHold n headPlaces valuePlaces = leb n headPlaces && leb n valuePlaces
 
+-- Document 02, No. 8, "Kind 7 retired": the event is of the kind that the writer no longer takes.
+abbrev pub isRetired : ℕ → Bool
+isRetired head = eqb (kindOf head) 7
+
+-- The check of an event that is read is 6 and 7. That of an event that is written: 6; "27 when the writer is given kind 7, after question 6 at that event"; then 7.
+unfoldable pub writeShapeOf : ℕ → ℕ → ℕ
+writeShapeOf head value = cond (isKind (kindOf head)) (cond (isRetired head) 27 (shapeOf head value)) 6
+
 -- Questions 6 and 7 go event by event; the walk ends at the first event that fails a check and gives its index.
 -- The check of an event, by its head and value, gives 0 or the number of the question that is answered no.
 unfoldable pub walkFrom : (ℕ → ℕ → ℕ) → ℕ → List ℕ → List ℕ → Verdict
@@ -79,11 +87,11 @@ boardVerdict = verdictWithin board
 abbrev pub compactVerdict : List ℕ → Verdict
 compactVerdict = verdictWithin compact
 
--- Questions 2 to 7, writing: 4 is whether heads and values are equally many (n is the heads).
+-- Questions 2 to 7, writing: 4 is whether heads and values are equally many (n is the heads); 27 is asked after question 6 at an event.
 unfoldable pub writeVerdict : ℕ → List ℕ → List ℕ → ℕ → Verdict
 writeVerdict sources heads values space =
     question 2 (sourcesInRange sources)
     (question 3 (countInRange (length heads))
     (question 4 (eqb (length heads) (length values))
     (question 5 (leb (lengthOf (length heads)) space)
-    (walk shapeOf heads values))))
+    (walk writeShapeOf heads values))))

@@ -80,7 +80,7 @@ module _ (limits : Limits) (bytes : List ℕ) (byte : Below 256 bytes) (heads va
         let ea′ = rw (parts .heads, parts .values, parts .sources) at ea in
         let ed′ = rw (parts .heads, parts .values, parts .sources) at ed in (
           rw (eq-eqb _ _ (parts .yes)) ea′,
-          (eh, (ev, (rw (eq-eqb _ _ (parts .yes)) ed′, (λ z l. let b = writes-back limits bytes byte (length heads) (length values) back z l in (ea′ ∙ b .0, ed′ ∙ b .1))))),
+          (eh, (ev, (rw (eq-eqb _ _ (parts .yes)) ed′, rw (ea′, ed′) (writes-back limits bytes byte (length heads) (length values) back)))),
         )
 
     pub not-read : {number place : ℕ} → r ≡ reading.Refused number place

@@ -8,15 +8,19 @@ use lib.Dec.{leb, lit<}
 use lib.ListN.{length, getD, drop, length-append, length-drop, take-append-drop}
 use lib.Seq.{take-at, drop-at, take-all, take-length, drop-drop}
 use Rattle.event.specs.Event.{shapeOf}
+use Rattle.buffers.specs.Filled.{filled}
 use Rattle.record.specs.declared.Limits.{Limits}
+use Rattle.record.specs.declared.Verdict.{Verdict}
 use Rattle.record.specs.Words.{wordsOf}
 use Rattle.record.specs.Record.{mostEvents, recordOf, countOf, sourcesOf, headsOf, valuesOf, lengthOf}
-use Rattle.record.specs.Questions.{question, noRefusal, arraysHold, walk, readVerdict, writeVerdict}
-use Rattle.record.specs.Answers.{writeAnswer, writtenBytes}
+use Rattle.record.specs.Questions.{question, noRefusal, arraysHold, writeShapeOf, walk, readVerdict, writeVerdict}
+use Rattle.record.specs.Answers.{doneWith, refusedAt, writeAnswer, writtenBytes}
+use Rattle.record.specs.Retired.{NoneRetired, FirstRetired}
 use Rattle.record_round_trip.specs.RoundTrip.{ReadsBackWithin, WritesBack}
 use Rattle.record.proofs.Words.{Below, length-bytes, length-words, words-of-bytes, bytes-of-words}
-use Rattle.record.proofs.Walk.{walk-clear, walk-yes, heads-length, equally-many}
+use Rattle.record.proofs.Walk.{heads-length, equally-many}
 use Rattle.record.proofs.Questions.{Readable, readable, Writable, writable}
+use Rattle.record.proofs.Retired.{walks-beside}
 
 below-cons : (b x : ℕ) (xs : List ℕ) → x < b → Below b xs → Below b (x ∷ xs)
 below-cons b x xs hx h zero = hx
@@ -64,7 +68,7 @@ module _ (sources : ℕ) (heads values : List ℕ) (same : length heads ≡ leng
       → readVerdict limits written headPlaces valuePlaces ≡ question 5 (arraysHold (length heads) headPlaces valuePlaces) noRefusal
   unfolding readVerdict
   reads-written limits space hp vp w taken short =
-      let all : walk shapeOf heads values ≡ noRefusal = walk-yes shapeOf 0 heads values same (walk-clear shapeOf heads values same (w .events)) in
+      let all : walk shapeOf heads values ≡ noRefusal = walks-beside heads values same .accepted (w .events) .0 in
       let eight : 8 ≤ lengthOf (length heads) = omega arith in
       rw (
         heads-back,
@@ -114,12 +118,33 @@ module _ (limits : Limits) (bytes : List ℕ) (headPlaces valuePlaces : ℕ) (by
       let whole : length bytes % 4 ≡ 0 = omega arith in
       rw (heads-count, split) (bytes-of-words bytes byte whole)
 
-  pub writes-read : (space : ℕ) → writeVerdict (sourcesOf bytes) (headsOf bytes) (valuesOf bytes) space ≡ question 5 (leb (length bytes) space) noRefusal
+  same-places : length (headsOf bytes) ≡ length (valuesOf bytes)
+  same-places = equally-many bytes (countOf bytes) (r .whole)
+
+  -- Writing what was read asks only for room, and for events that the writer takes.
+  pub writes-read : (space : ℕ) → writeVerdict (sourcesOf bytes) (headsOf bytes) (valuesOf bytes) space ≡ question 5 (leb (length bytes) space) (walk writeShapeOf (headsOf bytes) (valuesOf bytes))
   unfolding writeVerdict
-  writes-read space =
-      let same : length (headsOf bytes) ≡ length (valuesOf bytes) = equally-many bytes (countOf bytes) (r .whole) in
-      let all : walk shapeOf (headsOf bytes) (valuesOf bytes) ≡ noRefusal = walk-yes shapeOf 0 _ _ same (walk-clear shapeOf _ _ same (r .events)) in
-      rw (all, eq-eqb _ _ same, heads-count, ← r .whole, le-leb _ _ (r .two), le-leb _ _ (r .most), le-leb _ _ (r .few))
+  writes-read space = rw (eq-eqb _ _ same-places, heads-count, ← r .whole, le-leb _ _ (r .two), le-leb _ _ (r .most), le-leb _ _ (r .few))
+
+  -- With room.
+  module _ (back : List ℕ) (l : length bytes ≤ length back) where
+    with-room : {v : Verdict} → walk writeShapeOf (headsOf bytes) (valuesOf bytes) ≡ v → writeVerdict (sourcesOf bytes) (headsOf bytes) (valuesOf bytes) (length back) ≡ v
+    with-room e = writes-read (length back) ∙ rw (le-leb _ _ l) e
+
+    pub returned : NoneRetired (headsOf bytes)
+        → (writeAnswer (sourcesOf bytes) (headsOf bytes) (valuesOf bytes) (length back) ≡ doneWith (length bytes ∷ []))
+        × (writtenBytes (sourcesOf bytes) (headsOf bytes) (valuesOf bytes) back ≡ filled bytes back)
+    returned none =
+        let v = with-room (walks-beside (headsOf bytes) (valuesOf bytes) same-places .accepts (r .events) none) in
+        let long : lengthOf (length (headsOf bytes)) ≡ length bytes = rw heads-count (sym (r .whole)) in
+        (rw (v, long), rw (v, bytes-back))
+
+    pub not-returned : (p : ℕ) → FirstRetired (headsOf bytes) p
+        → (writeAnswer (sourcesOf bytes) (headsOf bytes) (valuesOf bytes) (length back) ≡ refusedAt 27 p)
+        × (writtenBytes (sourcesOf bytes) (headsOf bytes) (valuesOf bytes) back ≡ back)
+    not-returned p first =
+        let v = with-room (walks-beside (headsOf bytes) (valuesOf bytes) same-places .refuses (r .events) p first) in
+        (rw v, rw v)
 
 -- The round trip: for everything the writer accepts, a reader that takes N and n returns n, N, heads and values of what it wrote.
 pub reads-back : (limits : Limits) (sources : ℕ) (heads values : List ℕ) → Below (2 ^ 32) heads → Below (2 ^ 32) values → (space : ℕ) (headsBack valuesBack : List ℕ)
@@ -135,14 +160,11 @@ reads-back limits sources heads values hh hv space headsBack valuesBack taken sh
       rw (v, values-back sources heads values (w .same) hn hs hh hv),
     )
 
--- The round trip: for everything the reader accepts, writing what it read returns the same bytes.
+-- The round trip: for everything the reader accepts, writing what it read returns the same bytes, or is refused at the first event of kind 7.
 pub writes-back : (limits : Limits) (bytes : List ℕ) → Below 256 bytes → (headPlaces valuePlaces : ℕ) (back : List ℕ)
     → WritesBack limits bytes headPlaces valuePlaces back
     (writeAnswer (sourcesOf bytes) (headsOf bytes) (valuesOf bytes) (length back))
     (writtenBytes (sourcesOf bytes) (headsOf bytes) (valuesOf bytes) back)
 writes-back limits bytes byte headPlaces valuePlaces back z l =
     let r = readable limits bytes headPlaces valuePlaces z in
-    let v : writeVerdict (sourcesOf bytes) (headsOf bytes) (valuesOf bytes) (length back) ≡ noRefusal =
-    writes-read limits bytes _ _ byte r (length back) ∙ rw (le-leb _ _ l) in
-    let long : lengthOf (length (headsOf bytes)) ≡ length bytes = rw (heads-length bytes (countOf bytes) (r .whole)) (sym (r .whole)) in
-    (rw (v, long), rw (v, bytes-back limits bytes _ _ byte r))
+    (returned limits bytes headPlaces valuePlaces byte r back l, not-returned limits bytes headPlaces valuePlaces byte r back l)

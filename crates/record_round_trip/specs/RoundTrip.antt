@@ -10,6 +10,7 @@ use Rattle.record.specs.declared.Limits.{Limits}
 use Rattle.record.specs.declared.Verdict.{Verdict}
 use Rattle.record.specs.Record.{recordOf, sourcesOf, headsOf, valuesOf}
 use Rattle.record.specs.Questions.{readVerdict, writeVerdict}
+use Rattle.record.specs.Retired.{NoneRetired, FirstRetired}
 use Rattle.record.specs.Answers.{Answer, doneWith, refusedAt, allYes, readAnswer, readHeads, readValues, writeAnswer, writtenBytes}
 
 -- The second call's answer, unless the first refused.
@@ -50,12 +51,14 @@ abbrev pub readWriteBytes : Limits → List ℕ → ℕ → ℕ → List ℕ →
 readWriteBytes limits bytes headPlaces valuePlaces back =
     thenLeaves (readVerdict limits bytes headPlaces valuePlaces) (writtenBytes (sourcesOf bytes) (headsOf bytes) (valuesOf bytes) back) back
 
--- For everything the reader accepts, writing what it read, where there is room, returns the same bytes.
+-- For everything the reader accepts, writing what it read, where there is room, returns the same bytes: document 02, No. 8, "the return trip of bytes holds for records
+-- without kind 7". With one, the writer refuses with 27 at the first, and the bytes stay as they were.
 abbrev pub WritesBack : Limits → List ℕ → ℕ → ℕ → List ℕ → Answer → List ℕ → Type 0
 WritesBack limits bytes headPlaces valuePlaces back answer backExit =
     readVerdict limits bytes headPlaces valuePlaces .refusal ≡ 0
     → length bytes ≤ length back
-    → (answer ≡ doneWith (length bytes ∷ [])) × (backExit ≡ filled bytes back)
+    → (NoneRetired (headsOf bytes) → (answer ≡ doneWith (length bytes ∷ [])) × (backExit ≡ filled bytes back))
+    × ((p : ℕ) → FirstRetired (headsOf bytes) p → (answer ≡ refusedAt 27 p) × (backExit ≡ back))
 
 -- Document 02, No. 3. For everything the writer accepts, where a reader takes N and n, that reader returns n, N, heads and values too.
 abbrev pub ReadsBackWithin : Limits → ℕ → List ℕ → List ℕ → ℕ → List ℕ → List ℕ → Type 0

@@ -6,10 +6,9 @@ use mathlib.Core.List.{List, [], _∷_}
 use borrow.Author.Tests.{le-leb, lt-leb, eq-eqb, ne-eqb, not-true, not-false}
 use lib.ListN.{length}
 use Rattle.buffers.specs.Filled.{filled}
-use Rattle.event.specs.Event.{shapeOf}
 use Rattle.record.specs.declared.Verdict.{Verdict}
 use Rattle.record.specs.Record.{mostEvents, recordOf, lengthOf}
-use Rattle.record.specs.Questions.{verdict, sourcesInRange, walk, writeVerdict}
+use Rattle.record.specs.Questions.{verdict, sourcesInRange, writeShapeOf, walk, writeVerdict}
 use Rattle.record.specs.Answers.{doneWith, refusedAt, writeAnswer, writtenBytes}
 
 -- The verdict of each no, given the answers before it as the code has them.
@@ -33,7 +32,7 @@ module _ (sources : ℕ) (heads values : List ℕ) (space : ℕ) where
         unfolding writeVerdict
         write-no-5 h = rw (not-false (sourcesInRange sources) q2, le-leb _ _ q3, eq-eqb _ _ q4, lt-leb _ _ h)
 
-        pub write-walk : lengthOf (length heads) ≤ space → walk shapeOf heads values ≡ writeVerdict sources heads values space
+        pub write-walk : lengthOf (length heads) ≤ space → walk writeShapeOf heads values ≡ writeVerdict sources heads values space
         unfolding writeVerdict
         write-walk h = rw (not-false (sourcesInRange sources) q2, le-leb _ _ q3, eq-eqb _ _ q4, le-leb _ _ h)
 

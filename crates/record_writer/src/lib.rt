@@ -5,10 +5,9 @@ ghost use Prim.Native.Nat.{_+_, _*_, _^_, _≤_, _<_};
 ghost use lib.ListN.{length};
 ghost use lib.Seq.{sets};
 ghost use Rattle.buffers.specs.Filled.{filled};
-ghost use Rattle.event.specs.Event.{shapeOf};
 ghost use Rattle.record.specs.Words.{bytesOf, bytesOfWords};
 ghost use Rattle.record.specs.Record.{recordOf, lengthOf};
-ghost use Rattle.record.specs.Questions.{walk, writeVerdict};
+ghost use Rattle.record.specs.Questions.{writeShapeOf, walk, writeVerdict};
 ghost use Rattle.record.specs.Answers.{writeNumbers, writeAnswer, writtenBytes};
 use record::MOST_EVENTS;
 use record::MOST_SOURCES;
@@ -52,10 +51,24 @@ fn put_record(sources: u32, heads: &[u32], values: &[u32], bytes: &mut [u8])
     put_words(bytes, 2 + n, values);
 }
 
-// Questions 6 and 7 of the events in two arrays.
+// Questions 6, 27 and 7 of an event that is written: 0 where each is answered yes, else the number of the first no.
+fn write_shape(head: u32, value: u32) -> u8
+    ensures { λ r. ⌜ r ≡ writeShapeOf head value ⌝ }
+{
+    let refusal = event::shape(head, value);
+    if refusal == 6 {
+        return refusal;
+    }
+    if event::kind(head) == 7 {
+        return 27;
+    }
+    refusal
+}
+
+// Questions 6, 27 and 7 of the events in two arrays.
 fn walk_arrays(heads: &[u32], values: &[u32]) -> Verdict
     requires { ⌜ length (now heads) ≡ length (now values) ⌝ }
-    ensures { λ r. ⌜ r ≡ walk shapeOf (now (heads .entry)) (now (values .entry)) ⌝ }
+    ensures { λ r. ⌜ r ≡ walk writeShapeOf (now (heads .entry)) (now (values .entry)) ⌝ }
 {
     let mut i: usize = 0;
     let verdict = loop {
@@ -65,7 +78,7 @@ fn walk_arrays(heads: &[u32], values: &[u32]) -> Verdict
                 place: 0,
             };
         }
-        let refusal = event::shape(heads[i], values[i]);
+        let refusal = write_shape(heads[i], values[i]);
         if refusal != 0 {
             break Verdict { refusal, place: i };
         }
@@ -74,7 +87,7 @@ fn walk_arrays(heads: &[u32], values: &[u32]) -> Verdict
     verdict
 }
 
-// Questions 2 to 7, writing.
+// Questions 2 to 7 and 27, writing.
 fn ask_writing(sources: u32, heads: &[u32], values: &[u32], space: usize) -> Verdict
     ensures { λ r. ⌜ r ≡ writeVerdict sources (now (heads .entry)) (now (values .entry)) space ⌝ }
 {

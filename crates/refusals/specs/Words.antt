@@ -19,6 +19,7 @@ recordRows =
     ∷ (8, "the machine handed in is not sound")
     ∷ (22, "N is above 63, the compact player's most")
     ∷ (23, "more than 500 events, the compact player's most")
+    ∷ (27, "kind 7 is no longer written: chain by look and commit, 12 and 13")
     ∷ []
 
 -- Questions about an event:

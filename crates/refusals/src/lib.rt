@@ -74,6 +74,11 @@ pub fn put_words(buffer: &mut [u8], at: usize, refusal: u8) -> usize
             at,
             b"more than 500 events, the compact player's most",
         ),
+        27 => put_text(
+            buffer,
+            at,
+            b"kind 7 is no longer written: chain by look and commit, 12 and 13",
+        ),
         _ => put_event_words(buffer, at, refusal),
     }
 }

@@ -5,7 +5,7 @@ use mathlib.Core.List.{List, [], _∷_}
 use Rattle.event.specs.Event.{shapeOf}
 use Rattle.event.specs.Listing.{listingSources, listingHeads, listingValues}
 use Rattle.record.specs.Record.{recordSize}
-use Rattle.record.specs.Questions.{writeVerdict, walkFrom}
+use Rattle.record.specs.Questions.{writeShapeOf, walkFrom, writeVerdict}
 use Rattle.record.specs.Answers.{doneWith, refusedAt}
 use Rattle.digits.specs.Ascii.{ascii}
 use Rattle.digits.specs.Digits.{digitOf, numberAfter}
@@ -17,7 +17,7 @@ use Rattle.text_reader.specs.Answers.{LinesAnswer, faulty, written, toRe
 
 -- To unfold this is to unfold every rule of a text.
 rules : Unit {0}
-unfolding textFault eventsFault rowsFrom saysAny saidIn withoutReturn withoutLead keptOf trimmed before after linesIn allDigits numberAfter digitOf writeVerdict walkFrom shapeOf ascii
+unfolding textFault eventsFault rowsFrom saysAny saidIn withoutReturn withoutLead keptOf trimmed before after linesIn allDigits numberAfter digitOf writeVerdict walkFrom writeShapeOf shapeOf ascii
 rules = tt
 
 -- N 4 and ten events.
@@ -128,3 +128,20 @@ no-kind = refl
 pub unused : answer (ascii "4\n50000:1\n") ≡ written (refusedAt 7 0) 2
 unfolding rules
 unused = refl
+
+-- Kind 7, with an address, in the second event; kind 7 after an event with an unused part, and before one; heads that have a 7 elsewhere.
+pub retired : answer (ascii "4\n00050000:0\n# chain\n00070001:0") ≡ written (refusedAt 27 1) 4
+unfolding rules
+retired = refl
+
+pub retired-after-7 : answer (ascii "4\n00050000:1\n00070000:0") ≡ written (refusedAt 7 0) 2
+unfolding rules
+retired-after-7 = refl
+
+pub retired-before-7 : answer (ascii "4\n70000:0\n00050000:1") ≡ written (refusedAt 27 0) 2
+unfolding rules
+retired-before-7 = refl
+
+pub sevens-elsewhere : answer (ascii "4\n00000007:7\n00017000:0\n000d0007:0\n") ≡ made 32
+unfolding rules
+sevens-elsewhere = refl

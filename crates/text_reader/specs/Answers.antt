@@ -27,7 +27,7 @@ recordNumbers (toRecord.Refused number at row) = written (refusedAt number at) r
 abbrev pub isWell : List ℕ → Bool
 isWell text = eqb (textFault text .why) 0
 
--- Questions 6 and 7 are about the event at their place, whose row comes after that of N; those before them about N.
+-- Questions 6, 27 and 7 are about the event at their place, whose row comes after that of N; those before them about N.
 abbrev pub rowOfPlace : ℕ → ℕ → ℕ
 rowOfPlace refusal place = cond (leb 6 refusal) (suc place) 0
 

@@ -408,7 +408,7 @@ fn read_text(text: &[u8], heads: &mut [u32], values: &mut [u32], numbers: &mut [
     }
 }
 
-// The line that a refusal of the record's questions is about: that of N, or for questions 6 and 7 that of the event.
+// The line that a refusal of the record's questions is about: that of N, or for questions 6, 27 and 7 that of the event.
 fn line_of(refusal: u8, place: usize, first: usize, numbers: &[usize; MOST_EVENTS]) -> usize
     requires { ⌜ (6 ≤ refusal → place < mostEvents) ⌝ }
     ensures { λ r. ⌜ r ≡ cond (ltb refusal 6) first (getD (now (numbers .entry)) place 0) ⌝ }

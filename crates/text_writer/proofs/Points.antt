@@ -1,4 +1,4 @@
--- The listing of document 01: the text that is made of its record, computed by the rules.
+-- The listing of document 01: the text that is made of its record, and that of an old record, computed by the rules.
 use mathlib.Core.Path.{_≡_, refl}
 use mathlib.Core.List.{[], _∷_}
 use Rattle.event.specs.Event.{shapeOf}
@@ -20,3 +20,12 @@ listing-text = refl
 pub listing-length : toTextAnswer (recordOf listingSources listingHeads listingValues) ≡ doneWith (112 ∷ [])
 unfolding eventsText digitsTo wordsOf bytesOfWords readVerdict walkFrom shapeOf
 listing-length = refl
+
+-- A record with kind 7 is still told.
+pub old-text : textOf (recordOf 4 (0x50000 ∷ 0x70000 ∷ []) (0 ∷ 0 ∷ [])) ≡ ascii "4\n00050000:0\n00070000:0\n"
+unfolding eventsText digitsTo wordsOf bytesOfWords ascii
+old-text = refl
+
+pub old-length : toTextAnswer (recordOf 4 (0x50000 ∷ 0x70000 ∷ []) (0 ∷ 0 ∷ [])) ≡ doneWith (24 ∷ [])
+unfolding eventsText digitsTo wordsOf bytesOfWords readVerdict walkFrom shapeOf
+old-length = refl

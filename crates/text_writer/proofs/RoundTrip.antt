@@ -2,13 +2,13 @@
 use mathlib.Core.Path.{_≡_, refl, sym, ap, _∙_}
 use mathlib.Core.Bool.{Bool, true, false}
 use mathlib.Core.Logic.{_⊎_, inl, inr}
-use Prim.Native.Nat.{ℕ, suc, _+_, _^_, _≤_, _<_}
-use native.Mathlib.Nat.{lt-of-lt-of-le}
+use Prim.Native.Nat.{ℕ, zero, suc, _+_, _^_, _≤_, _<_}
+use native.Mathlib.Nat.{lt-of-lt-of-le, zero-add, add-suc, suc-add}
 use native.Mathlib.Omega.{arith}
 use mathlib.Core.List.{List, [], _∷_, _++_, map, append-assoc}
 use borrow.Author.Tests.{le-leb, ltb-true, ltb-false}
 use lib.Dec.{ltb, lit<, lit≤}
-use lib.ListN.{length, replicate, length-append, length-replicate}
+use lib.ListN.{length, getD, replicate, length-append, length-replicate}
 use Rattle.buffers.specs.Filled.{filled}
 use Rattle.digits.specs.Digits.{glyph, digitsTo, decimal, hexadecimal, numberOf}
 use Rattle.digits.proofs.Digits.{digits-most}
@@ -16,17 +16,19 @@ use Rattle.digits.proofs.Meaning.{digits-length, digits-number}
 use Rattle.digits.proofs.Signs.{Signs, none, more, digits-signs, digits-some}
 use Rattle.record.specs.Record.{board, countOf, sourcesOf, headsOf, valuesOf, recordSize, mostEvents}
 use Rattle.record.specs.Questions.{boardVerdict}
-use Rattle.record.specs.Answers.{doneWith}
+use Rattle.record.specs.Answers.{Answer, doneWith, refusedAt, writeAnswer, writtenBytes}
+use Rattle.record.specs.Retired.{NoneRetired, FirstRetired}
 use Rattle.record.proofs.Words.{Below}
 use Rattle.record.proofs.Walk.{equally-many}
 use Rattle.record.proofs.Questions.{Readable, readable}
+use Rattle.record_round_trip.specs.RoundTrip.{WritesBack}
 use Rattle.record_round_trip.proofs.RoundTrip.{heads-count, writes-back}
 use Rattle.record.proofs.Parts.{heads-below, values-below}
-use Rattle.text_reader.specs.Lines.{lineFeed, colon, before, linesIn}
+use Rattle.text_reader.specs.Lines.{lineFeed, colon, linesIn}
 use Rattle.text_reader.specs.Numbers.{isNumber}
 use Rattle.text_reader.specs.Rows.{trimmed, Row, rowsFrom, rowsOf}
-use Rattle.text_reader.specs.Reading.{headPart, valuePart, isEvent, headIn, valueIn, noFault, eventsFault, textSize, textFault, sourcesOfText, headsOfText, valuesOfText}
-use Rattle.text_reader.specs.Answers.{written, writerAnswer, toRecordAnswer, toRecordBytes}
+use Rattle.text_reader.specs.Reading.{headPart, valuePart, isEvent, headIn, valueIn, noFault, eventsFault, textSize, textFault, sourcesOfText, headsOfText, valuesOfText, numbersOf}
+use Rattle.text_reader.specs.Answers.{written, lineOf, writerAnswer, toRecordAnswer, toRecordBytes}
 use Rattle.text_reader.proofs.Sentences.{Free, empty, other, free-append, before-free, after-free}
 use Rattle.text_reader.proofs.Marks.{lines-first}
 use Rattle.text_reader.proofs.Plain.{signs-digits, Solid, Plain, trimmed-solid, row-plain, no-more-rows, event-past, no-more-events, text-well}
@@ -154,6 +156,18 @@ events-of-lines k (x ∷ heads) (y ∷ values) hh hv same =
       ap (map valueIn) first ∙ rw (value-of-line x y (hh 0) (hv 0) k, rest .1),
     )
 
+-- The lines of events that are numbered from k on.
+events-numbers : (k : ℕ) (heads values : List ℕ) (i : ℕ) → length heads ≡ length values → i < length heads
+    → getD (numbersOf (rowsFrom k (linesIn (eventsText heads values)))) i 0 ≡ i + k
+unfolding eventsText
+events-numbers k [] values i same h = absurd (omega arith)
+events-numbers k (x ∷ heads) [] i same h = absurd (omega arith)
+events-numbers k (x ∷ heads) (y ∷ values) zero same h = rw (event-row k x y (eventsText heads values)) (sym (zero-add k))
+events-numbers k (x ∷ heads) (y ∷ values) (suc i) same h =
+    let same′ : length heads ≡ length values = omega arith in
+    let h′ : i < length heads = omega arith in
+    rw (event-row k x y (eventsText heads values)) (events-numbers (suc k) heads values i same′ h′ ∙ add-suc i k ∙ sym (suc-add i k))
+
 -- The whole text: it has no fault, and it says N, the heads and the values.
 module _ (sources : ℕ) (heads values : List ℕ) (small : sources < 1000) (few : length heads ≤ mostEvents) (same : length heads ≡ length values)
     (hh : Below (2 ^ 32) heads) (hv : Below (2 ^ 32) values) where
@@ -191,6 +205,9 @@ module _ (sources : ℕ) (heads values : List ℕ) (small : sources < 1000) (few
   pub values-of-text : valuesOfText text ≡ values
   values-of-text = rw rows (events-of-lines 2 heads values hh hv same .1)
 
+  pub line-of-event : (i : ℕ) → i < length heads → getD (numbersOf (rowsOf text)) (suc i) 0 ≡ i + 2
+  line-of-event i h = rw rows (events-numbers 2 heads values i same h)
+
 -- For every record that is accepted, the record made of its text is that record.
 module _ (bytes : List ℕ) (byte : Below 256 bytes) (z : boardVerdict bytes .refusal ≡ 0) where
   ok : Readable board bytes mostEvents mostEvents
@@ -211,30 +228,55 @@ module _ (bytes : List ℕ) (byte : Below 256 bytes) (z : boardVerdict bytes .re
   hv : Below (2 ^ 32) (valuesOf bytes)
   hv = values-below bytes byte
 
-  back-again : (back : List ℕ) → length back ≡ recordSize
-      → (toRecordAnswer (textOf bytes) recordSize ≡ written (doneWith (length bytes ∷ [])) 0) × (toRecordBytes (textOf bytes) back ≡ filled bytes back)
-  back-again back long =
-      let fits : length bytes ≤ length back = omega (arith, ok .whole, ok .few) in
-      let again = writes-back board bytes byte mostEvents mostEvents back z fits in
-      let wrote : writerAnswer (textOf bytes) recordSize ≡ doneWith (length bytes ∷ []) =
+  -- What is answered to the text, and what is left, is what the writer answers to what was read.
+  asked : {a : Answer} → writeAnswer (sourcesOf bytes) (headsOf bytes) (valuesOf bytes) recordSize ≡ a → toRecordAnswer (textOf bytes) recordSize ≡ written a (lineOf (textOf bytes) a)
+  asked {a} e =
+      let wrote : writerAnswer (textOf bytes) recordSize ≡ a =
       rw (
         sources-of-text (sourcesOf bytes) (headsOf bytes) (valuesOf bytes) small few same hh hv,
         heads-of-text (sourcesOf bytes) (headsOf bytes) (valuesOf bytes) small few same hh hv,
         values-of-text (sourcesOf bytes) (headsOf bytes) (valuesOf bytes) small few same hh hv,
       )
-      (rw long at (again .0)) in (
-        rw (no-fault (sourcesOf bytes) (headsOf bytes) (valuesOf bytes) small few same hh hv, wrote),
-        rw (
-          no-fault (sourcesOf bytes) (headsOf bytes) (valuesOf bytes) small few same hh hv,
-          sources-of-text (sourcesOf bytes) (headsOf bytes) (valuesOf bytes) small few same hh hv,
-          heads-of-text (sourcesOf bytes) (headsOf bytes) (valuesOf bytes) small few same hh hv,
-          values-of-text (sourcesOf bytes) (headsOf bytes) (valuesOf bytes) small few same hh hv,
-        )
-            (again .1),
+      e in
+      rw (no-fault (sourcesOf bytes) (headsOf bytes) (valuesOf bytes) small few same hh hv, wrote)
+
+  left : (back : List ℕ) → toRecordBytes (textOf bytes) back ≡ writtenBytes (sourcesOf bytes) (headsOf bytes) (valuesOf bytes) back
+  left back =
+      rw (
+        no-fault (sourcesOf bytes) (headsOf bytes) (valuesOf bytes) small few same hh hv,
+        sources-of-text (sourcesOf bytes) (headsOf bytes) (valuesOf bytes) small few same hh hv,
+        heads-of-text (sourcesOf bytes) (headsOf bytes) (valuesOf bytes) small few same hh hv,
+        values-of-text (sourcesOf bytes) (headsOf bytes) (valuesOf bytes) small few same hh hv,
       )
 
+  module _ (back : List ℕ) (long : length back ≡ recordSize) where
+    again : WritesBack board bytes mostEvents mostEvents back
+        (writeAnswer (sourcesOf bytes) (headsOf bytes) (valuesOf bytes) (length back))
+        (writtenBytes (sourcesOf bytes) (headsOf bytes) (valuesOf bytes) back)
+    again = writes-back board bytes byte mostEvents mostEvents back
+
+    fits : length bytes ≤ length back
+    fits = omega (arith, ok .whole, ok .few)
+
+    back-again : NoneRetired (headsOf bytes)
+        → (toRecordAnswer (textOf bytes) recordSize ≡ written (doneWith (length bytes ∷ [])) 0) × (toRecordBytes (textOf bytes) back ≡ filled bytes back)
+    back-again clear = let b = again z fits .0 clear in (asked (rw long at (b .0)), left back ∙ b .1)
+
+    not-again : (p : ℕ) → FirstRetired (headsOf bytes) p
+        → (toRecordAnswer (textOf bytes) recordSize ≡ written (refusedAt 27 p) (p + 2)) × (toRecordBytes (textOf bytes) back ≡ back)
+    not-again p first =
+        let b = again z fits .1 p first in
+        let line = line-of-event (sourcesOf bytes) (headsOf bytes) (valuesOf bytes) small few same hh hv p (first .0 .0) in
+        (asked (rw long at (b .0)) ∙ ap (written (refusedAt 27 p)) line, left back ∙ b .1)
+
 pub comes-back : (bytes : List ℕ) → Below 256 bytes → ComesBack bytes
-comes-back bytes byte z = (back-again bytes byte z zeros (length-replicate {A = ℕ} recordSize 0) .0, (λ back long. back-again bytes byte z back long .1))
+comes-back bytes byte z = (
+  (λ clear. (back-again bytes byte z zeros zeros-long clear .0, (λ back long. back-again bytes byte z back long clear .1))),
+  (λ p first. (not-again bytes byte z zeros zeros-long p first .0, (λ back long. not-again bytes byte z back long p first .1))),
+)
   where
     zeros : List ℕ
     zeros = replicate recordSize 0
+
+    zeros-long : length zeros ≡ recordSize
+    zeros-long = length-replicate {A = ℕ} recordSize 0

@@ -65,6 +65,12 @@ slice-aggregate-put-text-10 c = search needs
 put-text-requires-10 : tie.Need-put-text-requires-10
 put-text-requires-10 c κs = search needs
 
+slice-aggregate-put-text-11 : tie.Need-slice-aggregate-put-text-11
+slice-aggregate-put-text-11 c = search needs
+
+put-text-requires-11 : tie.Need-put-text-requires-11
+put-text-requires-11 c κs = search needs
+
 put-event-words-requires : tie.Need-put-event-words-requires
 put-event-words-requires c κs = search needs
 
@@ -142,8 +148,15 @@ same-length-11 : tie.Need-same-length-11
 same-length-11 c = search needs
 
 returns-11 : tie.Need-returns-11
+unfolding recordRows wordsIn ascii
+returns-11 c = rw (c .before .before .before .before .before .match .keys11) (c .before .before .put-text11 .ensures)
+
+same-length-12 : tie.Need-same-length-12
+same-length-12 c = search needs
+
+returns-12 : tie.Need-returns-12
 unfolding recordRows
-returns-11 c = rw (behind (c .before .before .before .before .before .before .args .refusal) _ recordRows eventRows (c .before .before .before .before .match .rest)) (c .before .before .put-event-words .ensures)
+returns-12 c = rw (behind (c .before .before .before .before .before .before .args .refusal) _ recordRows eventRows (c .before .before .before .before .match .rest)) (c .before .before .put-event-words .ensures)
 
 pub put-words-spec : {M : Type 1} → statement M
 put-words-spec =
@@ -169,6 +182,8 @@ put-words-spec =
     put-text-requires-9
     slice-aggregate-put-text-10
     put-text-requires-10
+    slice-aggregate-put-text-11
+    put-text-requires-11
     put-event-words-requires
     same-length
     returns
@@ -191,4 +206,6 @@ put-words-spec =
     same-length-10
     returns-10
     same-length-11
-    returns-11)
+    returns-11
+    same-length-12
+    returns-12)
