@@ -682,22 +682,30 @@ fn looks_and_commits(random: &mut Random, limits: Limits) -> Vec<u8> {
             12 => beside_chains(&mut script, random),
             _ => committed_nesting(&mut script, random),
         }
-        if random.chance(1, 3) {
-            script.set_mask(0);
-            script.give_back();
-            script.csr_read(MEICURPL);
-        }
+        now_and_then_return(&mut script, random);
     }
-    match random.below(4) {
-        0 => script.unwind(),
-        1 => script.audit(),
-        _ => {}
-    }
+    end_nesting(&mut script, random);
     let mut record = script.record();
     if random.chance(1, 3) {
         spoil_look(&mut record, random);
     }
     bytes_of(&record)
+}
+
+fn now_and_then_return(script: &mut Script, random: &mut Random) {
+    if random.chance(1, 3) {
+        script.set_mask(0);
+        script.give_back();
+        script.csr_read(MEICURPL);
+    }
+}
+
+fn end_nesting(script: &mut Script, random: &mut Random) {
+    match random.below(4) {
+        0 => script.unwind(),
+        1 => script.audit(),
+        _ => {}
+    }
 }
 
 /// Puts in a look or a commit that the reader refuses for an unused part, or an event of a kind
@@ -1077,8 +1085,16 @@ fn beside_chains(script: &mut Script, random: &mut Random) {
     }
 }
 
-/// Handlers of rising ranks, often fifteen, with commits and chains on the way up and down.
-fn committed_nesting(script: &mut Script, random: &mut Random) {
+/// Handlers of rising ranks, often fifteen. `up` comes between take and open, where another source
+/// may ask with the handler's rank, and `down` before each return, where something may be offered.
+fn rise_and_fall(
+    script: &mut Script,
+    random: &mut Random,
+    asks: (u32, u32),
+    up: fn(&mut Script, &mut Random),
+    offers: (u32, u32),
+    down: fn(&mut Script, &mut Random),
+) {
     settle(script, random);
     script.lower_bars();
     for rank in rising_ranks(random) {
@@ -1086,19 +1102,33 @@ fn committed_nesting(script: &mut Script, random: &mut Random) {
         script.request(source, rank);
         script.take();
         // Its own source, or an equal of a lower number.
-        if random.chance(1, 4) {
+        if random.chance(asks.0, asks.1) {
             let other = script.a_source();
             script.request(other, rank);
-            script.look_and_commit();
+            up(script, random);
         }
         script.open();
     }
     while !script.machine.handlers.is_empty() && !script.full() {
         script.set_mask(0);
         let top = script.machine.handlers.last().cloned();
-        if let Some(top) = top.filter(|_| random.chance(1, 3)) {
+        if let Some(top) = top.filter(|_| random.chance(offers.0, offers.1)) {
             offer(script, random, &top);
         }
+        down(script, random);
+        script.give_back();
+        if random.chance(1, 24) {
+            break;
+        }
+    }
+}
+
+/// With commits and chains on the way up and down.
+fn committed_nesting(script: &mut Script, random: &mut Random) {
+    fn up(script: &mut Script, _: &mut Random) {
+        script.look_and_commit();
+    }
+    fn down(script: &mut Script, random: &mut Random) {
         match random.below(4) {
             0 => {
                 script.chain();
@@ -1106,11 +1136,8 @@ fn committed_nesting(script: &mut Script, random: &mut Random) {
             1 | 2 => script.look_and_commit(),
             _ => {}
         }
-        script.give_back();
-        if random.chance(1, 24) {
-            break;
-        }
     }
+    rise_and_fall(script, random, (1, 4), up, (1, 3), down);
 }
 
 /// Chains as old records have them, served, in vain and refused, beside the looks and commits that
@@ -1129,17 +1156,9 @@ fn old_chains(random: &mut Random, limits: Limits) -> Vec<u8> {
             6 => beside_chains(&mut script, random),
             _ => chained_nesting(&mut script, random),
         }
-        if random.chance(1, 3) {
-            script.set_mask(0);
-            script.give_back();
-            script.csr_read(MEICURPL);
-        }
+        now_and_then_return(&mut script, random);
     }
-    match random.below(4) {
-        0 => script.unwind(),
-        1 => script.audit(),
-        _ => {}
-    }
+    end_nesting(&mut script, random);
     let mut record = script.record();
     if random.chance(1, 3) {
         spoil_chain(&mut record, random);
@@ -1273,37 +1292,15 @@ fn chained_in_vain(script: &mut Script, random: &mut Random) {
     }
 }
 
-/// Handlers of rising ranks, often fifteen, with a chain at most of them on the way up, before they
-/// are opened, and on the way down.
+/// With a chain at most of the handlers on the way up, before they are opened, and on the way down.
 fn chained_nesting(script: &mut Script, random: &mut Random) {
-    settle(script, random);
-    script.lower_bars();
-    for rank in rising_ranks(random) {
-        let source = script.a_source();
-        script.request(source, rank);
-        script.take();
-        if random.chance(1, 3) {
-            let other = script.a_source();
-            script.request(other, rank);
-            chain_or_commit(script, random);
-        }
-        script.open();
-    }
-    while !script.machine.handlers.is_empty() && !script.full() {
-        script.set_mask(0);
-        let top = script.machine.handlers.last().cloned();
-        if let Some(top) = top.filter(|_| random.coin()) {
-            offer(script, random, &top);
-        }
+    fn down(script: &mut Script, random: &mut Random) {
         if random.chance(3, 4) {
             chain_or_commit(script, random);
             script.csr_read(MEIHAP);
         }
-        script.give_back();
-        if random.chance(1, 24) {
-            break;
-        }
     }
+    rise_and_fall(script, random, (1, 3), chain_or_commit, (1, 2), down);
 }
 
 fn priority_order(random: &mut Random, limits: Limits) -> Vec<u8> {

@@ -1170,17 +1170,6 @@ fn changed(event: Event) -> Option<&'static str> {
     }
 }
 
-/// By what a winner that no chain would serve fails.
-fn why_not(machine: &Machine) -> &'static str {
-    let rank = machine.handlers.last().unwrap().rank;
-    match machine.winner() {
-        (0, _) => "none",
-        (_, winner) if winner > rank => "higher",
-        (_, winner) if winner < rank => "lower",
-        _ => "threshold",
-    }
-}
-
 fn meet_commit(before: &Machine, number: u32, end: &str, met: &mut Met) {
     let top = match before.handlers.last() {
         Some(top) => top,

@@ -3,6 +3,7 @@
 mod common;
 
 use common::records::*;
+use common::why_not;
 use reference::event::*;
 use reference::generate::{generate, FAMILIES};
 use reference::machine::*;
@@ -713,17 +714,6 @@ fn most_other_texts_have_no_chain() {
 }
 
 // Generated records.
-
-/// By what a winner that no chain would serve fails.
-fn why_not(machine: &Machine) -> &'static str {
-    let rank = machine.handlers.last().unwrap().rank;
-    match machine.winner() {
-        (0, _) => "none",
-        (_, winner) if winner > rank => "higher",
-        (_, winner) if winner < rank => "lower",
-        _ => "threshold",
-    }
-}
 
 /// Whether a capture would change what is claimed.
 fn would_show(machine: &Machine) -> bool {

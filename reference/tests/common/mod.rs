@@ -125,3 +125,14 @@ impl Play for Machine {
         outcome
     }
 }
+
+/// By what a winner that no chain would serve fails.
+pub fn why_not(machine: &Machine) -> &'static str {
+    let rank = machine.handlers.last().unwrap().rank;
+    match machine.winner() {
+        (0, _) => "none",
+        (_, winner) if winner > rank => "higher",
+        (_, winner) if winner < rank => "lower",
+        _ => "threshold",
+    }
+}
