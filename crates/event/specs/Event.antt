@@ -67,7 +67,7 @@ UsesNeither k = (head value : ℕ) → kindOf head ≡ k → shapeOf head value 
 abbrev pub ErrorShape : Type 0
 ErrorShape = UsesAddress 11
 
--- No. 7: of a commit they ask the same, and nothing of the number that it commits; of a look as of a chain, that address and value are 0.
+-- No. 7: of a commit they ask the same, and nothing of the number that it commits; of a look, as the reader of a chain, that address and value are 0.
 abbrev pub CommitShape : Type 0
 CommitShape = UsesAddress 13
 
