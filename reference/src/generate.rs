@@ -851,6 +851,15 @@ fn unmasked_looks(script: &mut Script, random: &mut Random) {
     }
 }
 
+/// Gives a handler something to go on with, most often after the source that it serves fell quiet.
+fn offer_next(script: &mut Script, random: &mut Random, top: &Handler) {
+    let serving = script.machine.handlers.last().map(|top| top.source as u32);
+    if let Some(source) = serving.filter(|_| random.chance(3, 4)) {
+        script.quiet(source);
+    }
+    offer(script, random, top);
+}
+
 /// Source after source is looked at and committed.
 fn committed_at_once(script: &mut Script, random: &mut Random) {
     let top = match masked_uppermost(script, random) {
@@ -858,11 +867,7 @@ fn committed_at_once(script: &mut Script, random: &mut Random) {
         None => return,
     };
     for _ in 0..random.between(1, 5) {
-        let serving = script.machine.handlers.last().map(|top| top.source as u32);
-        if let Some(source) = serving.filter(|_| random.chance(3, 4)) {
-            script.quiet(source);
-        }
-        offer(script, random, &top);
+        offer_next(script, random, &top);
         if random.chance(1, 3) {
             claim_otherwise(script, random);
         }
@@ -1226,11 +1231,7 @@ fn chained_in_turn(script: &mut Script, random: &mut Random) {
         None => return,
     };
     for _ in 0..random.between(2, 6) {
-        let serving = script.machine.handlers.last().map(|top| top.source as u32);
-        if let Some(source) = serving.filter(|_| random.chance(3, 4)) {
-            script.quiet(source);
-        }
-        offer(script, random, &top);
+        offer_next(script, random, &top);
         claim_otherwise(script, random);
         let right = script.machine.chainable();
         match random.below(6) {

@@ -37,7 +37,7 @@ use Rattle.record.specs.Record.{recordOf}
 use Rattle.record.specs.Questions.{writeShapeOf, walkFrom, readVerdict, writeVerdict}
 use Rattle.digits.specs.Ascii.{ascii}
 use Rattle.playback.specs.Print.{eventLines, printOf, compactPrintOf, printWithin}
-use Rattle.bench_points.specs.Points.{Points, Plays, Holds, after, handler, listing-text, fifteen-up, fifteen-down, fifteen-handlers, three-fields, high-first, low-first, both-back, with-meicurpl, erring-up, erring-down, _answers_, csrRead, commit, return, meihap, stale, served-15, recorded}
+use Rattle.bench_points.specs.Points.{Points, Plays, Holds, after, handler, listing-text, fifteen-up, fifteen-down, fifteen-handlers, three-fields, high-first, low-first, both-back, with-meicurpl, erring-up, erring-down, _answers_, csrRead, commit, meihap, stale, old-k10, old-k10-text}
 
 -- To unfold this is to unfold every rule.
 rules : Unit {0}
@@ -93,9 +93,7 @@ errors-nested : Plays 4 (erring-up ++ erring-down)
 unfolding rules
 errors-nested = (refl, refl)
 
-retired-print :
-    printOf (recorded (served-15 ++ (return answers 0 ∷ [])))
-    ≡ ascii "sources 4 events 12\n0 2 0 0\n1 2 0 0\n2 2 0 0\n3 2 0 0\n4 0 0 0\n5 9 0 0\n6 5 4 0\n7 6 15 0\n8 0 0 0\n9 9 0 0\n10 7 8 0\n11 8 0 0\nend open 0 level 0 margin 15\n"
+retired-print : printOf old-k10 ≡ ascii old-k10-text
 unfolding rules
 retired-print = refl
 

@@ -588,6 +588,14 @@ recorded es = recordOf 4 (headColumn es) (valueColumn es)
 abbrev pub writing : List ℕ → List ℕ → Verdict
 writing heads values = writeVerdict 4 heads values 104
 
+-- K10 with its chain and a return, as an old record, and what that prints.
+abbrev pub old-k10 : List ℕ
+old-k10 = recorded (served-15 ++ (return answers 0 ∷ []))
+
+abbrev pub old-k10-text : String
+old-k10-text =
+    "sources 4 events 12\n0 2 0 0\n1 2 0 0\n2 2 0 0\n3 2 0 0\n4 0 0 0\n5 9 0 0\n6 5 4 0\n7 6 15 0\n8 0 0 0\n9 9 0 0\n10 7 8 0\n11 8 0 0\nend open 0 level 0 margin 15\n"
+
 -- The table.
 pub record Points : Type 0 where
   -- K1, as document 02, No. 4, changes it: "field 5, priord set, reads 5, rank 10".
@@ -922,8 +930,6 @@ pub record Points : Type 0 where
   pub retired-k10 : writing (headColumn served-15) (valueColumn served-15) ≡ verdict 27 10
   pub retired-k10-committed : writing (headColumn committed-15) (valueColumn committed-15) ≡ noRefusal
   -- "Old records with kind 7 are still read and played as before": 6 and 7 are asked of them, and no 27.
-  pub retired-read : boardVerdict (recorded served-15) ≡ noRefusal
+  pub retired-read : boardVerdict old-k10 ≡ noRefusal
   pub retired-read-7 : boardVerdict (recordOf 4 (0x70000 ∷ 0x7FFFF ∷ []) (0 ∷ 1 ∷ [])) ≡ verdict 7 1
-  pub retired-print :
-      printOf (recorded (served-15 ++ (return answers 0 ∷ [])))
-      ≡ ascii "sources 4 events 12\n0 2 0 0\n1 2 0 0\n2 2 0 0\n3 2 0 0\n4 0 0 0\n5 9 0 0\n6 5 4 0\n7 6 15 0\n8 0 0 0\n9 9 0 0\n10 7 8 0\n11 8 0 0\nend open 0 level 0 margin 15\n"
+  pub retired-print : printOf old-k10 ≡ ascii old-k10-text

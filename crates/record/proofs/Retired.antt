@@ -9,7 +9,7 @@ use borrow.Author.Tests.{eq-eqb, ne-eqb, eqb-true, eqb-false, ltb-false}
 use lib.Dec.{eqb}
 use lib.ListN.{length, getD}
 use Rattle.event.specs.Event.{kinds, kindOf, addressOf, isKind, unusedAreZero, shapeOf}
-use Rattle.event.proofs.Laws.{shape-6, chain-shape}
+use Rattle.event.proofs.Laws.{shape-6, FirstNo, first-question, chain-shape}
 use Rattle.record.specs.Questions.{verdict, noRefusal, isRetired, writeShapeOf, walk}
 use Rattle.record.specs.Retired.{RetiredAlone, AcceptsOthers, FirstNoOf, FirstNoWriting, RetiredAt, NoneRetired, FirstRetired, SomeRetired, NoneOrFirst, WalksBeside, WritesNoneRetired}
 use Rattle.record.proofs.Walk.{walk-clear, walk-yes, walk-ends}
@@ -61,15 +61,16 @@ not-retired : (head value : ℕ) → writeShapeOf head value ≡ 0 → kindOf he
 not-retired head value z e = let seven = of-retired head value e in omega (arith, z, seven)
 
 pub first-no-writing : FirstNoWriting
-unfolding writeShapeOf shapeOf
-first-no-writing head value = go (isKind (kindOf head)) (isRetired head) (unusedAreZero (kindOf head) (addressOf head) value)
+first-no-writing head value h = go (isRetired head) refl
   where
-    go : (six r seven : Bool) → (_≡_ {A = ℕ} (cond six (cond r 27 (cond six (cond seven 0 7) 6)) 6) 0 → ⊥)
-        → FirstNoOf six r seven (cond six (cond r 27 (cond six (cond seven 0 7) 6)) 6)
-    go false r seven h = inl (refl, refl)
-    go true true seven h = inr (inl (refl, refl, refl))
-    go true false false h = inr (inr (refl, refl, refl, refl))
-    go true false true h = absurd (h refl)
+    as-read : writeShapeOf head value ≡ shapeOf head value → FirstNo (isKind (kindOf head)) (unusedAreZero (kindOf head) (addressOf head) value) (shapeOf head value)
+        → FirstNoOf (isKind (kindOf head)) false (unusedAreZero (kindOf head) (addressOf head) value) (writeShapeOf head value)
+    as-read e (inl n) = inl (n .0, e ∙ n .1)
+    as-read e (inr n) = inr (inr (n .0, refl, n .1, e ∙ n .2))
+
+    go : (r : Bool) → isRetired head ≡ r → FirstNoOf (isKind (kindOf head)) r (unusedAreZero (kindOf head) (addressOf head) value) (writeShapeOf head value)
+    go true e = let seven = eqb-true (kindOf head) 7 e in inr (inl (rw seven, refl, of-retired head value seven))
+    go false e = let same = of-other head value (eqb-false (kindOf head) 7 e) in as-read same (first-question head value (λ z. h (same ∙ z)))
 
 -- A head before others.
 none-cons : (x : ℕ) (heads : List ℕ) → (kindOf x ≡ 7 → ⊥) → NoneRetired heads → NoneRetired (x ∷ heads)
