@@ -219,7 +219,7 @@ pub record Handlers : Type 0 where
   pub current : Rank
 
 abbrev pub handlersOf : Machine → Handlers
-handlersOf m = record { depth = m .depth; handlers = first (m .depth) (m .stack); current = currentRank (m .controller) }
+handlersOf m = record { depth = m .service .depth; handlers = first (m .service .depth) (m .service .stack); current = currentRank (m .controller) }
 
 -- It holds so many handlers, these, at this current rank.
 abbrev pub Holds : Machine → ℕ → List Handler → ℕ → Type 0

@@ -32,10 +32,12 @@ use Rattle.nesting.proofs.Held.{held-push, held-pop, held-swap, held-mark, held
 use Rattle.nesting.proofs.Nesting.{nesting}
 use Rattle.handlers.specs.declared.Machine.{Machine}
 use Rattle.handlers.specs.declared.Outcome.{Outcome}
-use Rattle.handlers.specs.Fields.{withMask, withCounters}
+use Rattle.handlers.specs.Fields.{withCounters}
 use Rattle.handlers_stack.specs.Stacks.{blank}
 use Rattle.handlers.specs.Machines.{uppermost, powerOnOf}
-use Rattle.handlers.specs.Service.{accepted, refused, lifted, lookAt, newHandler, taken, marked, serves, replaced, chained, nextSource}
+use Rattle.handlers.specs.Service.{accepted, refused, lifted, lookAt}
+use Rattle.handlers_service.specs.Fields.{withSource, withOpened}
+use Rattle.handlers_laws.proofs.Service.{withMask, newHandler, taken, serves, chained, nextSource}
 use Rattle.handlers.specs.Calls.{stepOf}
 use Rattle.handlers_laws.proofs.Facts.{facts, Sound, saved-small, room, served-facts}
 use Rattle.handlers_laws.proofs.Cases.{step-cases}
@@ -75,7 +77,7 @@ module _ (m : Machine) (r : Ready m) where
   sound-here = facts m (r .isSound)
 
   -- Take pushes.
-  taken-pushes : (m .mask ≡ 0 → ⊥) → ltZ (pos 0) (lookAt m .margin) ≡ true
+  taken-pushes : (m .service .mask ≡ 0 → ⊥) → ltZ (pos 0) (lookAt m .margin) ≡ true
       → Pushed eh1 m (answerOf (accepted (taken m) (lookAt m .meihap))) (taken m)
   taken-pushes h g =
       let c = m .controller in
@@ -85,33 +87,33 @@ module _ (m : Machine) (r : Ready m) where
       let d = room m s h g in
       record {
         new = seen (newHandler m);
-        pushed = rw (one-more m r h g) (held-push seen (m .stack) (m .depth) (newHandler m) (omega (arith, r .places, d)));
+        pushed = rw (one-more m r h g) (held-push seen (m .service .stack) (m .service .depth) (newHandler m) (omega (arith, r .places, d)));
         serves = record { names = k .names; ranked = ap (λ (z : Rank). z .0) (k .winner .ranked) };
         won = won c (lookAt m) k (o .threshold);
         saved = refl;
         above = λ rest top e.
-            let t = held-top seen (m .stack) (m .depth) blank rest top (omega (arith, r .places, d)) e in
+            let t = held-top seen (m .service .stack) (m .service .depth) blank rest top (omega (arith, r .places, d)) e in
             let q : top .rank ≡ uppermost m .rank .0 = ap (λ z. z .rank) (t .1) in
             omega (arith, q, o .current, top-current m s h (t .0));
         inRange = (omega (arith, o .threshold), k .rank-most);
       }
 
-  deep : m .depth ≤ length (m .stack)
+  deep : m .service .depth ≤ length (m .service .stack)
   deep = omega (arith, r .places, sound-here .few)
 
   -- Chain and commit replace the uppermost.
-  chained-swaps : 0 < m .depth → serves m ≡ true
+  chained-swaps : 0 < m .service .depth → serves m ≡ true
       → (lookAt m .meihap ≡ 0 → ⊥) × Swapped eh1 m (answerOf (accepted (chained m) (lookAt m .meihap))) (chained m)
   chained-swaps d e =
       let s = served-facts m sound-here e in
       let k = s .found in (
         (λ z. omega (arith, z, k .names, k .winner .eligible .least)),
         record {
-          rest = held seen (m .stack) (m .depth - 1);
+          rest = held seen (m .service .stack) (m .service .depth - 1);
           old = seen (uppermost m);
-          new = seen (replaced (uppermost m) (lookAt m .winner .source));
-          was = held-pop seen (m .stack) (m .depth) blank d deep;
-          is = held-swap seen (m .stack) (m .depth) (replaced (uppermost m) (lookAt m .winner .source)) d deep;
+          new = seen (withSource (uppermost m) (lookAt m .winner .source));
+          was = held-pop seen (m .service .stack) (m .service .depth) blank d deep;
+          is = held-swap seen (m .service .stack) (m .service .depth) (withSource (uppermost m) (lookAt m .winner .source)) d deep;
           serves = record { names = k .names; ranked = sym (s .ranked) ∙ ap (λ (z : Rank). z .0) (k .winner .ranked) };
           won = won (m .controller) (lookAt m) k (s .above);
           same-rank = refl;
@@ -121,7 +123,7 @@ module _ (m : Machine) (r : Ready m) where
 
   -- An event that is of no class where it is accepted leaves the stack as it is seen.
   other-does : (kind : ℕ) (o : Outcome) → acceptedClass kind (o .answer) ≡ isOther
-      → held seen (o .machine .stack) (o .machine .depth) ≡ held seen (m .stack) (m .depth) → DoesBy kind m o
+      → held seen (o .machine .service .stack) (o .machine .service .depth) ≡ held seen (m .service .stack) (m .service .depth) → DoesBy kind m o
   other-does kind o e h = rw e (go (eqb (o .refusal) 0))
     where
       go : (t : Bool) → Does eh1 (cond t isOther isOther) m (answerOf o) (o .machine)
@@ -149,21 +151,21 @@ module _ (m : Machine) (r : Ready m) where
         counter-reads = λ f. counters-do 3 (m .counters) (counters.csrValue (m .counters) (counters.csrAt a)) refl;
         writes = λ f. controller-does 4 (csrs.csrWriteOf (m .controller) a v) refl;
         counter-writes = λ f. counters-do 4 (counters.csrWritten (m .counters) (counters.csrAt a) v) 0 refl;
-        takes = λ f g. taken-pushes (λ z. let o = eqb-true (m .mask) 1 f in omega arith) g;
-        opens = λ f. held-mark seen (m .stack) (m .depth) (marked (uppermost m)) blank (ltb-true 0 (m .depth) f) deep refl;
-        chains = λ f e. let w = chained-swaps (ltb-true 0 (m .depth) f) e in rw (ne-eqb (lookAt m .meihap) 0 (w .0)) (w .1);
+        takes = λ f g. taken-pushes (λ z. let o = eqb-true (m .service .mask) 1 f in omega arith) g;
+        opens = λ f. held-mark seen (m .service .stack) (m .service .depth) (withOpened (uppermost m) 1) blank (ltb-true 0 (m .service .depth) f) deep refl;
+        chains = λ f e. let w = chained-swaps (ltb-true 0 (m .service .depth) f) e in rw (ne-eqb (lookAt m .meihap) 0 (w .0)) (w .1);
         passes = refl;
         returns = λ f.
             record {
               old = seen (uppermost m);
-              was = held-pop seen (m .stack) (m .depth) blank (ltb-true 0 (m .depth) f) deep;
-              restored = ap (λ (z : Rank). z .0) (current-is (m .controller) (uppermost m .saved) (saved-small m sound-here (ltb-true 0 (m .depth) f)));
+              was = held-pop seen (m .service .stack) (m .service .depth) blank (ltb-true 0 (m .service .depth) f) deep;
+              restored = ap (λ (z : Rank). z .0) (current-is (m .controller) (uppermost m .saved) (saved-small m sound-here (ltb-true 0 (m .service .depth) f)));
             };
         masks = λ f g. other-does 9 (accepted (withMask m v) 0) refl refl;
         clocks = counters-do 10 (timers.clockOf (m .counters) .counters) (timers.clockOf (m .counters) .answer) refl;
         errors = λ f. counters-do 11 (errors.errorOf (m .counters) a .counters) (errors.errorOf (m .counters) a .answer) refl;
         looks = other-does 12 (accepted m (nextSource m)) refl refl;
-        commits = λ f e. chained-swaps (ltb-true 0 (m .depth) f) e .1;
+        commits = λ f e. chained-swaps (ltb-true 0 (m .service .depth) f) e .1;
       })
 
 -- The laws of nested handlers hold of the machine.
@@ -180,4 +182,4 @@ eh1-laws =
 pub demand-3 : Demand3
 demand-3 n es =
     let r = power-on-ready n in
-    nesting eh1 eh1-laws (powerOnOf n .machine) (r .isSound, r .places) (ap (held seen (powerOnOf n .machine .stack)) (power-on-empty n)) es
+    nesting eh1 eh1-laws (powerOnOf n .machine) (r .isSound, r .places) (ap (held seen (powerOnOf n .machine .service .stack)) (power-on-empty n)) es

@@ -146,8 +146,8 @@ end-ready m r (h ∷ hs) [] w = r
 end-ready m r (h ∷ hs) (v ∷ vs) w = end-ready (stepOf m h v .machine) (step-ready m r h v (w 0)) hs vs (λ i. w (suc i))
 
 -- As many handlers are open as the depth says.
-open-is-depth : (m : Machine) → Ready m → m .depth ≡ length (eh1 .stack m)
-open-is-depth m r = sym (held-length seen (m .stack) (m .depth) (omega (arith, r .places, facts m (r .isSound) .few)))
+open-is-depth : (m : Machine) → Ready m → m .service .depth ≡ length (eh1 .stack m)
+open-is-depth m r = sym (held-length seen (m .service .stack) (m .service .depth) (omega (arith, r .places, facts m (r .isSound) .few)))
 
 -- Demand 3 for the list that was played.
 pub claimed : (n k : ℕ) (hs vs : List ℕ) → Words hs → Words vs → {m : Machine} → m ≡ endOf (powerOnOf n .machine) (take k hs) (take k vs)

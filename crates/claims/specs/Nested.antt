@@ -79,9 +79,9 @@ eh1 =
       next = λ m e. stepOf m (word (e .head)) (word (e .value)) .machine;
       answer = λ m e. answerOf (stepOf m (word (e .head)) (word (e .value)));
       class = λ e a. classBy (kindOf (word (e .head))) a;
-      stack = λ m. held seen (m .stack) (m .depth);
+      stack = λ m. held seen (m .service .stack) (m .service .depth);
       current = λ m. currentRank (m .controller) .0;
-      Sound = λ m. (soundOf m ≡ true) × (length (m .stack) ≡ 15);
+      Sound = λ m. (soundOf m ≡ true) × (length (m .service .stack) ≡ 15);
       Names = λ m a s. a .answer ≡ m .controller .scalars .base + 4 * s;
       rankOf = λ m s. rankAt (m .controller) s .0;
       Won = λ m s. Won (m .controller) s;
@@ -126,4 +126,4 @@ pub record Claimed (n : ℕ) (heads values : List ℕ) (m : Machine) : Type 0 wh
   -- "Its words": own returns, open handlers and chainings as the claim finds them in the list are what the sentences say.
   pub words : trace.ScansAreWords (traceOf n (eventsOf heads values))
   -- "Open, as a number, is how many handlers are on the stack": the depth, which the last line prints.
-  pub open-handlers : m .depth ≡ length (eh1 .stack m)
+  pub open-handlers : m .service .depth ≡ length (eh1 .stack m)

@@ -8,15 +8,16 @@ use lib.Dec.{eqb}
 use Rattle.event.specs.Event.{kindOf, addressOf}
 use Rattle.pic.specs.Sources.{thresholdOf, HasWinner}
 use Rattle.pic.specs.Calls.{sourceCount}
+use Rattle.handlers_service.specs.Events.{hasHandler, nextSource, mayCommit}
 use Rattle.handlers.specs.declared.Machine.{Machine}
 use Rattle.handlers.specs.declared.Outcome.{Outcome}
 use Rattle.handlers.specs.Machines.{uppermost, soundOf}
-use Rattle.handlers.specs.Service.{accepted, refused, captured, hasHandler, mayCommit}
+use Rattle.handlers.specs.Service.{accepted, refused, lookAt, captured}
 use Rattle.handlers.specs.Calls.{chainOf, lookOf, commitOf, stepOf}
 
 -- The number of the first no of 7, 17 and 19, and then of q; 0 where all are answered yes.
 abbrev pub firstNo : Machine → Bool → ℕ → ℕ
-firstNo m seven q = cond seven (cond (hasHandler m) (cond (eqb (m .mask) 0) q 19) 17) 7
+firstNo m seven q = cond seven (cond (hasHandler (m .service)) (cond (eqb (m .service .mask) 0) q 19) 17) 7
 
 -- "Both come under questions 17 and 19": a sound machine refuses an event of kind 12 with the first no of 7, 17 and 19,
 abbrev pub LookQuestions : Type 0
@@ -28,7 +29,7 @@ LookQuestions =
 abbrev pub CommitQuestions : Type 0
 CommitQuestions =
     (m : Machine) (head value : ℕ) → soundOf m ≡ true → kindOf head ≡ 13
-    → stepOf m head value .refusal ≡ firstNo m (eqb value 0) (cond (mayCommit m (addressOf head)) 0 26)
+    → stepOf m head value .refusal ≡ firstNo m (eqb value 0) (cond (mayCommit (addressOf head) (nextSource (m .service) (lookAt m))) 0 26)
 
 -- A look "changes nothing, with no capture": no event of kind 12 changes anything, on any machine, refused or not.
 abbrev pub LooksAlone : Type 0
@@ -41,7 +42,7 @@ pub record Tells (m : Machine) (s : ℕ) : Type 0 where
   pub winner : (s ≡ 0 → ⊥) → HasWinner (m .controller) (sourceCount (m .controller)) (record { source = s; rank = uppermost m .rank })
   pub above : (s ≡ 0 → ⊥) → thresholdOf (m .controller .scalars) .0 < uppermost m .rank .0
   pub answers : (s ≡ 0 → ⊥) → chainOf m .answer ≡ m .controller .scalars .base + 4 * s
-  pub replaces : (s ≡ 0 → ⊥) → length (m .stack) ≡ 15 → uppermost (chainOf m .machine) .source ≡ s
+  pub replaces : (s ≡ 0 → ⊥) → length (m .service .stack) ≡ 15 → uppermost (chainOf m .machine) .source ≡ s
 
 abbrev pub LookTells : Type 0
 LookTells = (m : Machine) → soundOf m ≡ true → lookOf m .refusal ≡ 0 → Tells m (lookOf m .answer)

@@ -1,14 +1,11 @@
 -- Document 01, "Handler service", and the questions 12 to 21; document 02, No. 1, No. 4, No. 5 and No. 7: what each event does and answers, once question 8 is answered yes. The rules are
 -- total: on a machine that is not sound they say what the code does, and question 8 keeps that from every caller.
-use Prim.Native.Nat.{ℕ, _+_, _-_, _%_, _^_}
+use Prim.Native.Nat.{ℕ, _%_}
 use mathlib.Core.Bool.{Bool, cond, not, _&&_, _||_}
-use lib.ListN.{set}
-use lib.Dec.{leb, ltb, eqb}
-use lib.IntN.{pos}
-use lib.Signed.{ltZ}
+use lib.Dec.{leb, eqb}
 use Rattle.event.specs.Event.{kindOf, addressOf, shapeOf}
 use Rattle.pic.specs.declared.Look.{Look}
-use Rattle.pic_comparator.specs.declared.Winner.{Winner}
+use Rattle.pic.specs.declared.Controller.{Controller}
 use Rattle.pic.specs.declared.Outcome as controller
 use Rattle.pic.specs.Calls.{priorityOrder, currentRank, setCurrent, captureOf, lookOf}
 use Rattle.pic_registers.specs.Calls as registers
@@ -16,11 +13,12 @@ use Rattle.pic_csrs.specs.Calls as csrs
 use Rattle.counters.specs.Timers as timers
 use Rattle.counters.specs.Errors as errors
 use Rattle.counters.specs.Csrs as counters
-use Rattle.handlers_stack.specs.declared.Handler.{Handler}
+use Rattle.handlers_service.specs.declared.Outcome as handler
+use Rattle.handlers_service.specs.Events as service
 use Rattle.handlers.specs.declared.Machine.{Machine}
 use Rattle.handlers.specs.declared.Outcome.{Outcome}
-use Rattle.handlers.specs.Fields.{withController, withMask, withDepth, withStack, withCounters}
-use Rattle.handlers.specs.Machines.{uppermost, isOpen}
+use Rattle.handlers.specs.Fields.{withController, withService, withCounters}
+use Rattle.handlers.specs.Machines.{uppermost}
 
 -- An accepted event hands back a machine and its answer, with no refusal.
 abbrev pub accepted : Machine → ℕ → Outcome
@@ -50,7 +48,7 @@ abbrev pub switches : Machine → ℕ → ℕ → Bool
 switches m offset v = eqb offset 0x3000 && not (eqb (v % 2) (priorityOrder (m .controller)))
 
 abbrev pub mayStore : Machine → ℕ → ℕ → Bool
-mayStore m offset v = not (switches m offset v) || eqb (m .depth) 0
+mayStore m offset v = not (switches m offset v) || eqb (m .service .depth) 0
 
 -- Store: 24 and the controller's own. 24 is asked of 0x3000 alone, to which 10 and 11 answer yes, so its place after them is the same (`StoreQuestions`).
 unfoldable pub storeEvent : Machine → ℕ → ℕ → Outcome
@@ -66,7 +64,7 @@ csrReadEvent m a = cond (ofCounters a) (accepted m (counters.csrValue (m .counte
 
 -- 14. Write to 0xBCC: is no handler open?
 abbrev pub mayWrite : Machine → ℕ → Bool
-mayWrite m a = not (eqb a 0xBCC) || eqb (m .depth) 0
+mayWrite m a = not (eqb a 0xBCC) || eqb (m .service .depth) 0
 
 -- A write to a CSR of the controller: 14 and the controller's own. 14 is asked of 0xBCC alone, to which 12 and 13 answer yes, so its place among them is the
 -- same.
@@ -82,112 +80,36 @@ csrWriteEvent m a v =
 abbrev pub lookAt : Machine → Look
 lookAt m = lookOf (m .controller)
 
--- The machine with the winner captured.
-abbrev pub capturedBy : Machine → Winner → Machine
-capturedBy m w = withController m (captureOf (m .controller) w)
+-- What the handler service answers. An accepted event leaves the service that it hands back, and this controller; a refused one leaves the machine as it was.
+abbrev pub servedWith : Machine → handler.Outcome → Controller → Outcome
+servedWith m o c = cond (eqb (o .refusal) 0) (accepted (withController (withService m (o .service)) c) (o .answer)) (refused m (o .refusal))
+
+-- The controller with its winner captured.
+abbrev pub capturedIn : Machine → Controller
+capturedIn m = captureOf (m .controller) (lookAt m .winner)
 
 abbrev pub captured : Machine → Machine
-captured m = capturedBy m (lookAt m .winner)
+captured m = withController m (capturedIn m)
 
--- The handler of a winner, with current as saved, unopened.
-abbrev pub handlerOf : Machine → Winner → Handler
-handlerOf m w = record { source = w .source; rank = w .rank; saved = currentRank (m .controller); opened = 0 }
-
-abbrev pub newHandler : Machine → Handler
-newHandler m = handlerOf m (lookAt m .winner)
-
--- One handler more. The number has 8 bits, and with at most 15 handlers it does not wrap.
-abbrev pub oneMore : ℕ → ℕ
-oneMore depth = (depth + 1) % 2 ^ 8
-
--- Take: capture, push the winner with current as saved, unopened; mask 0. Answer: meihap.
-abbrev pub takenBy : Machine → Winner → Machine
-takenBy m w = withMask (withDepth (withStack (capturedBy m w) (set (m .stack) (m .depth) (handlerOf m w))) (oneMore (m .depth))) 0
-
-abbrev pub taken : Machine → Machine
-taken m = takenBy m (lookAt m .winner)
-
--- 15. Take: is mask 1? 16. Is the margin above 0?
+-- Take: capture.
 unfoldable pub takeEvent : Machine → Outcome
-takeEvent m =
-    ask m (eqb (m .mask) 1) 15
-    (ask m (ltZ (pos 0) (lookAt m .margin)) 16
-    (accepted (taken m) (lookAt m .meihap)))
+takeEvent m = servedWith m (service.takeOf (m .service) (lookAt m) (currentRank (m .controller))) (capturedIn m)
 
--- The handler, opened (01's word): marked once by the Open event.
-abbrev pub marked : Handler → Handler
-marked h = record { source = h .source; rank = h .rank; saved = h .saved; opened = 1 }
-
--- The machine with another uppermost handler.
-abbrev pub withUppermost : Machine → Handler → Machine
-withUppermost m h = withStack m (set (m .stack) (m .depth - 1) h)
-
--- Open: uppermost becomes opened, current takes its rank, mask 1. Answer: that rank.
-abbrev pub openedBy : Machine → Handler → Machine
-openedBy m h = withMask (withUppermost (withController m (setCurrent (m .controller) (h .rank))) (marked h)) 1
-
-abbrev pub opened : Machine → Machine
-opened m = openedBy m (uppermost m)
-
--- 17. Open, chain, return, and document 02's look and commit: is a handler open?
-abbrev pub hasHandler : Machine → Bool
-hasHandler m = ltb 0 (m .depth)
-
--- 17. 18. Open: is the uppermost unopened?
+-- Open: current takes the uppermost's rank.
 unfoldable pub openEvent : Machine → Outcome
-openEvent m =
-    ask m (hasHandler m) 17
-    (ask m (eqb (uppermost m .opened) 0) 18
-    (accepted (opened m) (uppermost m .rank .0)))
+openEvent m = servedWith m (service.openOf (m .service)) (setCurrent (m .controller) (uppermost m .rank))
 
--- 17. 19. Chain, return, look, commit: is mask 0?
-abbrev pub inHandler : Machine → Outcome → Outcome
-inHandler m on = ask m (hasHandler m) 17 (ask m (eqb (m .mask) 0) 19 on)
-
--- A chain serves the winner if its rank equals the uppermost handler's and is above threshold.
-abbrev pub servesIn : Handler → Look → Bool
-servesIn h k = eqb (k .winner .rank .0) (h .rank .0) && k .above
-
-abbrev pub serves : Machine → Bool
-serves m = servesIn (uppermost m) (lookAt m)
-
--- The handler with another source.
-abbrev pub replaced : Handler → ℕ → Handler
-replaced h s = record { source = s; rank = h .rank; saved = h .saved; opened = h .opened }
-
--- Chain: capture. If the winner's rank equals the uppermost handler's and is above threshold, its source replaces that handler's;
-abbrev pub chainedBy : Machine → Winner → Machine
-chainedBy m w = withUppermost (capturedBy m w) (replaced (uppermost m) (w .source))
-
-abbrev pub chained : Machine → Machine
-chained m = chainedBy m (lookAt m .winner)
-
--- answer meihap.
-abbrev pub served : Machine → Outcome
-served m = accepted (chained m) (lookAt m .meihap)
-
--- Else answer 0, and that is no chaining of the handler.
-abbrev pub followed : Machine → Outcome
-followed m = cond (serves m) (served m) (accepted (captured m) 0)
-
--- 17. 19.
+-- Chain: capture.
 unfoldable pub chainEvent : Machine → Outcome
-chainEvent m = inHandler m (followed m)
+chainEvent m = servedWith m (service.chainOf (m .service) (lookAt m)) (capturedIn m)
 
--- Return: pop; current takes the saved rank; mask 1. Answer: handlers still open.
-abbrev pub returned : Machine → Machine
-returned m = withMask (withDepth (withController m (setCurrent (m .controller) (uppermost m .saved))) (m .depth - 1)) 1
-
--- 17. 19.
+-- Return: current takes the saved rank.
 unfoldable pub returnEvent : Machine → Outcome
-returnEvent m = inHandler m (accepted (returned m) (m .depth - 1))
+returnEvent m = servedWith m (service.returnOf (m .service)) (setCurrent (m .controller) (uppermost m .saved))
 
--- Set mask to the value. 20. Is the value 0 or 1? 21. Value 1: no handler, or the uppermost opened?
+-- Set mask: the controller stays as it is.
 unfoldable pub setMaskEvent : Machine → ℕ → Outcome
-setMaskEvent m v =
-    ask m (leb v 1) 20
-    (ask m (eqb v 0 || isOpen m) 21
-    (accepted (withMask m v) 0))
+setMaskEvent m v = servedWith m (service.setMaskOf (m .service) v) (m .controller)
 
 -- Clock: it is asked nothing more, and changes the timers alone. Answer: bit 0 for timer 0, bit 1 for timer 1.
 unfoldable pub clockEvent : Machine → Outcome
@@ -201,28 +123,13 @@ mayCount a = leb a 2
 unfoldable pub errorEvent : Machine → ℕ → Outcome
 errorEvent m a = ask m (mayCount a) 25 (accepted (withCounters m (errors.errorOf (m .counters) a .counters)) (errors.errorOf (m .counters) a .answer))
 
--- Document 02, No. 7: "the source that a chain would serve, or 0".
-abbrev pub nextIn : Handler → Look → ℕ
-nextIn h k = cond (servesIn h k) (k .winner .source) 0
-
-abbrev pub nextSource : Machine → ℕ
-nextSource m = nextIn (uppermost m) (lookAt m)
-
--- Look: it answers that source, "and changes nothing, with no capture". 17. 19.
+-- Document 02, No. 7. Look: it "changes nothing, with no capture".
 unfoldable pub lookEvent : Machine → Outcome
-lookEvent m = inHandler m (accepted m (nextSource m))
+lookEvent m = servedWith m (service.lookOf (m .service) (lookAt m)) (m .controller)
 
--- Commit: "26 when the committed number is 0 or isn't what a look would answer". The number is the whole address, so one above 255 is no source's.
-abbrev pub mayCommit : Machine → ℕ → Bool
-mayCommit m s = not (eqb s 0) && eqb s (nextSource m)
-
--- "It captures, replaces and answers as chain does."
-abbrev pub committed : Machine → ℕ → Outcome
-committed m s = ask m (mayCommit m s) 26 (served m)
-
--- 17. 19. 26, "after question 19".
+-- Commit: "it captures".
 unfoldable pub commitEvent : Machine → ℕ → Outcome
-commitEvent m s = inHandler m (committed m s)
+commitEvent m s = servedWith m (service.commitOf (m .service) (lookAt m) s) (capturedIn m)
 
 -- An event by its kind: 0 sample, 1 load, 2 store, 3 CSR read, 4 CSR write, 5 take, 6 open, 7 chain, 8 return, 9 set mask to the value, 10 clock, 11 error, 12 look,
 -- 13 commit. A kind that there is not is refused with 6.

@@ -27,8 +27,8 @@ withOrder m p = withController m (ordered (m .controller) p)
 -- accepted with none.
 pub record StoresOrder (m : Machine) (v : ℕ) : Type 0 where
   pub same : v % 2 ≡ priorityOrder (m .controller) → storeOf m 0x3000 v ≡ accepted m 0
-  pub open-handler : (v % 2 ≡ priorityOrder (m .controller) → ⊥) → 0 < m .depth → storeOf m 0x3000 v ≡ refused m 24
-  pub no-handler : (v % 2 ≡ priorityOrder (m .controller) → ⊥) → m .depth ≡ 0 → storeOf m 0x3000 v ≡ accepted (withOrder m (v % 2)) 0
+  pub open-handler : (v % 2 ≡ priorityOrder (m .controller) → ⊥) → 0 < m .service .depth → storeOf m 0x3000 v ≡ refused m 24
+  pub no-handler : (v % 2 ≡ priorityOrder (m .controller) → ⊥) → m .service .depth ≡ 0 → storeOf m 0x3000 v ≡ accepted (withOrder m (v % 2)) 0
 
 abbrev pub OrderStored : Type 0
 OrderStored = (m : Machine) (v : ℕ) → soundOf m ≡ true → StoresOrder m v
@@ -39,7 +39,7 @@ pub record Switched (m : Machine) (v : ℕ) : Type 0 where
   pub back : (w : ℕ) → w % 2 ≡ priorityOrder (m .controller) → storeOf (storeOf m 0x3000 v .machine) 0x3000 w ≡ accepted m 0
 
 abbrev pub OrderSwitched : Type 0
-OrderSwitched = (m : Machine) (v : ℕ) → soundOf m ≡ true → m .depth ≡ 0 → (v % 2 ≡ priorityOrder (m .controller) → ⊥) → Switched m v
+OrderSwitched = (m : Machine) (v : ℕ) → soundOf m ≡ true → m .service .depth ≡ 0 → (v % 2 ≡ priorityOrder (m .controller) → ⊥) → Switched m v
 
 -- "At power-on with priord then set to 1, all these ranks are 15", for every N, also one that power-on refuses.
 pub record PowerOnTurned (n : ℕ) : Type 0 where
@@ -57,5 +57,5 @@ StoreKeepsCurrent =
 -- While a handler is open, no event but open and return changes it.
 abbrev pub CurrentKept : Type 0
 CurrentKept =
-    (m : Machine) (head value : ℕ) → 0 < m .depth → (kindOf head ≡ 6 → ⊥) → (kindOf head ≡ 8 → ⊥)
+    (m : Machine) (head value : ℕ) → 0 < m .service .depth → (kindOf head ≡ 6 → ⊥) → (kindOf head ≡ 8 → ⊥)
     → currentRank (stepOf m head value .machine .controller) ≡ currentRank (m .controller)

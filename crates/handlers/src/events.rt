@@ -57,7 +57,7 @@ impl Machine {
     {
         let c = self.controller;
         let order = c.priority_order() as u32;
-        if (offset == 0x3000) & (v % 2 != order) & (self.depth != 0) {
+        if (offset == 0x3000) & (v % 2 != order) & (self.service.depth != 0) {
             return self.refuse(24);
         }
         self.lift(pic_registers::store(c, offset, v))
@@ -90,7 +90,7 @@ impl Machine {
     fn controller_write(self, address: u32, v: u32) -> Outcome
         ensures { λ r. ⌜ r ≡ controllerWrite self address v ⌝ }
     {
-        if (address == 0xBCC) & (self.depth != 0) {
+        if (address == 0xBCC) & (self.service.depth != 0) {
             return self.refuse(14);
         }
         let c = self.controller;

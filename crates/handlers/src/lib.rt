@@ -1,4 +1,4 @@
-// The machine: the interrupt controller with its mask, its stack of handlers, its timers and its error counters, and the handler service.
+// The machine: the interrupt controller with the handler service above it, its timers and its error counters.
 
 mod calls;
 mod checking;
@@ -7,14 +7,12 @@ mod service;
 mod sound;
 
 use counters::Counters;
-use handlers_stack::Handler;
+use handlers_service::Service;
 use pic::Controller;
 
-// The machine. Places of the stack from depth up mean nothing. The controller stands last: an event of the player then costs a copy of it less.
+// The machine. The controller stands last: an event of the player then costs a copy of it less.
 pub struct Machine {
-    pub mask: u8,
-    pub depth: u8,
-    pub stack: [Handler; 15],
+    pub service: Service,
     pub counters: Counters,
     pub controller: Controller,
 }

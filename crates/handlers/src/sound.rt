@@ -6,10 +6,7 @@ ghost use Rattle.handlers.specs.Service.{accepted, refused};
 use crate::Machine;
 use crate::Outcome;
 use counters::Counters;
-use handlers_stack::handlers_sound;
-use handlers_stack::level;
-use handlers_stack::no_handler;
-use handlers_stack::uppermost;
+use handlers_service::Service;
 use pic::Controller;
 
 impl Machine {
@@ -39,14 +36,12 @@ impl Machine {
     {
         let on = Controller::power_on(n);
         let c = on.controller;
-        let h = no_handler();
+        let s = Service::reset();
         let t = Counters::reset();
         let m = Machine {
-            controller: c,
-            mask: 0,
-            depth: 0,
-            stack: [h; 15],
+            service: s,
             counters: t,
+            controller: c,
         };
         Outcome {
             machine: m,
@@ -59,19 +54,9 @@ impl Machine {
     pub fn is_sound(self) -> bool
         ensures { λ r. ⌜ r ≡ soundOf self ⌝ }
     {
-        let d = self.depth;
-        let s = self.stack;
+        let s = self.service;
         let c = self.controller;
         let t = self.counters;
-        let h = uppermost(s, d);
-        let l = level(h);
-        let current = c.current_rank();
-        (d <= 15)
-            & (self.mask <= 1)
-            & handlers_sound(c.source_count(), d, s)
-            & ((d == 0) | (current.0 == l.0))
-            & ((self.mask == 0) | ((d == 0) | (h.opened == 1)))
-            & c.is_sound()
-            & t.is_sound()
+        s.is_sound(c.source_count(), c.current_rank()) & c.is_sound() & t.is_sound()
     }
 }

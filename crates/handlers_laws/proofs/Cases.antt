@@ -16,10 +16,11 @@ use Rattle.counters.specs.Errors as errors
 use Rattle.counters.specs.Csrs as counters
 use Rattle.handlers.specs.declared.Machine.{Machine}
 use Rattle.handlers.specs.declared.Outcome.{Outcome}
-use Rattle.handlers.specs.Fields.{withMask, withCounters}
-use Rattle.handlers.specs.Machines.{uppermost, isOpen, soundOf}
-use Rattle.handlers.specs.Service.{accepted, refused, ask, lifted, ofCounters, mayStore, mayWrite, mayCount, controllerWrite, hasHandler, inHandler, lookAt, taken, opened, serves, captured, served, returned, nextSource, mayCommit, sampleEvent, loadEvent, storeEvent, csrReadEvent, csrWriteEvent, takeEvent, openEvent, chainEvent, returnEvent, setMaskEvent, clockEvent, errorEvent, lookEvent, commitEvent, eventOf, soundStepOf}
+use Rattle.handlers.specs.Fields.{withCounters}
+use Rattle.handlers.specs.Machines.{uppermost, soundOf}
+use Rattle.handlers.specs.Service.{accepted, refused, ask, lifted, ofCounters, mayStore, mayWrite, mayCount, controllerWrite, lookAt, captured, sampleEvent, loadEvent, storeEvent, csrReadEvent, csrWriteEvent, takeEvent, openEvent, chainEvent, returnEvent, setMaskEvent, clockEvent, errorEvent, lookEvent, commitEvent, eventOf, soundStepOf}
 use Rattle.handlers.specs.Calls.{stepOf}
+use Rattle.handlers_laws.proofs.Service.{take-event, open-event, chain-event, return-event, set-mask-event, look-event, commit-event, withMask, isOpen, hasHandler, inHandler, taken, opened, serves, served, returned, nextSource, mayCommit}
 
 -- The ways of an event of this address and value on the machine m, by its kind. A controller's own event may still be refused by the controller. A CSR is the
 -- counters' or the controller's.
@@ -32,11 +33,11 @@ pub record Cases (m : Machine) (a v : ℕ) (P : ℕ → Outcome → Type 0) : Ty
   pub counter-reads : ofCounters a ≡ true → P 3 (accepted m (counters.csrValue (m .counters) (counters.csrAt a)))
   pub writes : mayWrite m a ≡ true → P 4 (lifted m (csrs.csrWriteOf (m .controller) a v))
   pub counter-writes : ofCounters a ≡ true → P 4 (accepted (withCounters m (counters.csrWritten (m .counters) (counters.csrAt a) v)) 0)
-  pub takes : eqb (m .mask) 1 ≡ true → ltZ (pos 0) (lookAt m .margin) ≡ true → P 5 (accepted (taken m) (lookAt m .meihap))
+  pub takes : eqb (m .service .mask) 1 ≡ true → ltZ (pos 0) (lookAt m .margin) ≡ true → P 5 (accepted (taken m) (lookAt m .meihap))
   pub opens : hasHandler m ≡ true → P 6 (accepted (opened m) (uppermost m .rank .0))
   pub chains : hasHandler m ≡ true → serves m ≡ true → P 7 (served m)
   pub passes : P 7 (accepted (captured m) 0)
-  pub returns : hasHandler m ≡ true → P 8 (accepted (returned m) (m .depth - 1))
+  pub returns : hasHandler m ≡ true → P 8 (accepted (returned m) (m .service .depth - 1))
   pub masks : leb v 1 ≡ true → (eqb v 0 || isOpen m) ≡ true → P 9 (accepted (withMask m v) 0)
   pub clocks : P 10 (accepted (withCounters m (timers.clockOf (m .counters) .counters)) (timers.clockOf (m .counters) .answer))
   pub errors : mayCount a ≡ true → P 11 (accepted (withCounters m (errors.errorOf (m .counters) a .counters)) (errors.errorOf (m .counters) a .answer))
@@ -78,44 +79,37 @@ module _ (m : Machine) (a v : ℕ) (P : ℕ → Outcome → Type 0) (h : Cases m
   write-case = csr-case 4 _ _ (λ e. h .counter-writes e) (ask-case 4 (mayWrite m a) 14 _ (λ e. omega arith) (λ f. h .writes f))
 
   take-case : P 5 (takeEvent m)
-  unfolding takeEvent
-  take-case = ask-case 5 (eqb (m .mask) 1) 15 _ (λ e. omega arith) (λ f. ask-case 5 _ 16 _ (λ e. omega arith) (λ g. h .takes f g))
+  take-case = rw (take-event m) (ask-case 5 (eqb (m .service .mask) 1) 15 _ (λ e. omega arith) (λ f. ask-case 5 _ 16 _ (λ e. omega arith) (λ g. h .takes f g)))
 
   open-case : P 6 (openEvent m)
-  unfolding openEvent
-  open-case = ask-case 6 (hasHandler m) 17 _ (λ e. omega arith) (λ f. ask-case 6 (eqb (uppermost m .opened) 0) 18 _ (λ e. omega arith) (λ g. h .opens f))
+  open-case = rw (open-event m) (ask-case 6 (hasHandler m) 17 _ (λ e. omega arith) (λ f. ask-case 6 (eqb (uppermost m .opened) 0) 18 _ (λ e. omega arith) (λ g. h .opens f)))
 
   -- Questions 17 and 19.
   handler-case : (k : ℕ) (o : Outcome) → (hasHandler m ≡ true → P k o) → P k (inHandler m o)
-  handler-case k o p = ask-case k (hasHandler m) 17 _ (λ e. omega arith) (λ f. ask-case k (eqb (m .mask) 0) 19 _ (λ e. omega arith) (λ g. p f))
+  handler-case k o p = ask-case k (hasHandler m) 17 _ (λ e. omega arith) (λ f. ask-case k (eqb (m .service .mask) 0) 19 _ (λ e. omega arith) (λ g. p f))
 
   chain-case : P 7 (chainEvent m)
-  unfolding chainEvent
-  chain-case = handler-case 7 _ (λ f. go f (serves m) refl)
+  chain-case = rw (chain-event m) (handler-case 7 _ (λ f. go f (serves m) refl))
     where
       go : hasHandler m ≡ true → (t : Bool) → serves m ≡ t → P 7 (cond t (served m) (accepted (captured m) 0))
       go f true e = h .chains f e
       go f false e = h .passes
 
   return-case : P 8 (returnEvent m)
-  unfolding returnEvent
-  return-case = handler-case 8 _ (λ f. h .returns f)
+  return-case = rw (return-event m) (handler-case 8 _ (λ f. h .returns f))
 
   mask-case : P 9 (setMaskEvent m v)
-  unfolding setMaskEvent
-  mask-case = ask-case 9 (leb v 1) 20 _ (λ e. omega arith) (λ f. ask-case 9 (eqb v 0 || isOpen m) 21 _ (λ e. omega arith) (λ g. h .masks f g))
+  mask-case = rw (set-mask-event m v) (ask-case 9 (leb v 1) 20 _ (λ e. omega arith) (λ f. ask-case 9 (eqb v 0 || isOpen m) 21 _ (λ e. omega arith) (λ g. h .masks f g)))
 
   error-case : P 11 (errorEvent m a)
   unfolding errorEvent
   error-case = ask-case 11 (mayCount a) 25 _ (λ e. omega arith) (λ f. h .errors f)
 
   look-case : P 12 (lookEvent m)
-  unfolding lookEvent
-  look-case = handler-case 12 _ (λ f. h .looks)
+  look-case = rw (look-event m) (handler-case 12 _ (λ f. h .looks))
 
   commit-case : P 13 (commitEvent m a)
-  unfolding commitEvent
-  commit-case = handler-case 13 _ (λ f. ask-case 13 (mayCommit m a) 26 _ (λ e. omega arith) (λ g. h .commits f (commit-served m a g .0)))
+  commit-case = rw (commit-event m a) (handler-case 13 _ (λ f. ask-case 13 (mayCommit m a) 26 _ (λ e. omega arith) (λ g. h .commits f (commit-served m a g .0))))
 
   -- One kind, or the rest.
   choose : (k K : ℕ) (x y : Outcome) → P K x → P k y → P k (cond (eqb k K) x y)

@@ -137,7 +137,7 @@ module _ (m : Machine) (e : soundOf m ≡ true) where
   may-write : (a : ℕ) → csrs.isCsr (csrs.csrAt a) ≡ false → mayWrite m a ≡ true
   may-write a h = go (eqb a 0xBCC) refl
     where
-      go : (t : Bool) → eqb a 0xBCC ≡ t → (not t || eqb (m .depth) 0) ≡ true
+      go : (t : Bool) → eqb a 0xBCC ≡ t → (not t || eqb (m .service .depth) 0) ≡ true
       go true f = never (sym h ∙ rw (eqb-true a 0xBCC f) (known c.Meicurpl refl))
       go false f = refl
 

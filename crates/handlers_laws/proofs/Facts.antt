@@ -8,9 +8,9 @@ use lib.ListN.{getD}
 use lib.Dec.{eqb}
 use lib.IntN.{pos}
 use lib.Signed.{ltZ}
-use borrow.Author.Tests.{leb-true, eqb-true, le-leb, eq-eqb}
+use borrow.Author.Tests.{eqb-true}
 use Rattle.pic_source.specs.declared.Rank.{Rank}
-use Rattle.pic_source.proofs.Bools.{and-parts, or-cases, or-intro, all-at}
+use Rattle.pic_source.proofs.Bools.{and-parts, all-at}
 use Rattle.pic.specs.declared.Controller.{Controller}
 use Rattle.pic.specs.Sound as pic
 use Rattle.pic.specs.Sources.{thresholdOf}
@@ -19,44 +19,35 @@ use Rattle.pic_laws.proofs.Captures.{Found, look-found, margin-over, above-over
 use Rattle.counters.specs.declared.Counters.{Counters}
 use Rattle.counters.specs.Whole as counters
 use Rattle.handlers_stack.specs.Stacks.{levelOf}
-use Rattle.handlers_stack.proofs.Stacks.{Fine, each, each-back, rank-high, level-opened}
+use Rattle.handlers_stack.proofs.Stacks.{Fine, rank-high, level-opened}
+use Rattle.handlers_service.proofs.Facts as service
 use Rattle.handlers.specs.declared.Machine.{Machine}
 use Rattle.handlers.specs.Fields.{withController, withCounters}
-use Rattle.handlers.specs.Machines.{uppermost, isOpen, soundTests, soundOf}
-use Rattle.handlers.specs.Service.{lookAt, serves}
+use Rattle.handlers.specs.Machines.{uppermost, soundTests, soundOf}
+use Rattle.handlers.specs.Service.{lookAt}
+use Rattle.handlers_laws.proofs.Service.{serves}
 
 pub record Sound (m : Machine) : Type 0 where
-  pub few : m .depth ≤ 15
-  pub bit : m .mask ≤ 1
-  pub handlers : (j : ℕ) → j < m .depth → Fine (sourceCount (m .controller)) (m .depth) (m .stack) j
-  pub current : (m .depth ≡ 0) ⊎ (currentRank (m .controller) .0 ≡ levelOf (uppermost m) .0)
-  pub masked : (m .mask ≡ 0) ⊎ ((m .depth ≡ 0) ⊎ (uppermost m .opened ≡ 1))
+  pub few : m .service .depth ≤ 15
+  pub bit : m .service .mask ≤ 1
+  pub handlers : (j : ℕ) → j < m .service .depth → Fine (sourceCount (m .controller)) (m .service .depth) (m .service .stack) j
+  pub current : (m .service .depth ≡ 0) ⊎ (currentRank (m .controller) .0 ≡ levelOf (uppermost m) .0)
+  pub masked : (m .service .mask ≡ 0) ⊎ ((m .service .depth ≡ 0) ⊎ (uppermost m .opened ≡ 1))
   pub controller : pic.soundOf (m .controller) ≡ true
   pub counters : counters.soundOf (m .counters) ≡ true
-
--- There is no handler, or the uppermost is opened.
-pub open-cases : (m : Machine) → isOpen m ≡ true → (m .depth ≡ 0) ⊎ (uppermost m .opened ≡ 1)
-open-cases m e =
-    ⊎-elim (λ g. inl (eqb-true (m .depth) 0 g)) (λ g. inr (eqb-true (uppermost m .opened) 1 g))
-    (or-cases (eqb (m .depth) 0) (eqb (uppermost m .opened) 1) e)
-
-open-test : (m : Machine) → (m .depth ≡ 0) ⊎ (uppermost m .opened ≡ 1) → isOpen m ≡ true
-open-test m h =
-    or-intro (eqb (m .depth) 0) (eqb (uppermost m .opened) 1) (⊎-elim (λ g. inl (eq-eqb (m .depth) 0 g)) (λ g. inr (eq-eqb _ 1 g)) h)
 
 pub facts : (m : Machine) → soundOf m ≡ true → Sound m
 unfolding soundOf
 facts m e =
+    let f = service.facts (m .service) (sourceCount (m .controller)) (currentRank (m .controller)) (t 0) in
     record {
-      few = leb-true _ _ (t 0);
-      bit = leb-true _ _ (t 1);
-      handlers = each (sourceCount (m .controller)) (m .depth) (m .stack) (m .depth) (t 2);
-      current =
-          ⊎-elim (λ f. inl (eqb-true (m .depth) 0 f)) (λ f. inr (eqb-true _ _ f))
-          (or-cases (eqb (m .depth) 0) (eqb (currentRank (m .controller) .0) (levelOf (uppermost m) .0)) (t 3));
-      masked = ⊎-elim (λ f. inl (eqb-true (m .mask) 0 f)) (λ f. inr (open-cases m f)) (or-cases (eqb (m .mask) 0) (isOpen m) (t 4));
-      controller = t 5;
-      counters = t 6;
+      few = f .few;
+      bit = f .bit;
+      handlers = f .handlers;
+      current = f .current;
+      masked = f .masked;
+      controller = t 1;
+      counters = t 2;
     }
   where
     t : (i : ℕ) → getD (soundTests m) i true ≡ true
@@ -66,12 +57,8 @@ pub sound : (m : Machine) → Sound m → soundOf m ≡ true
 unfolding soundOf
 sound m f =
     rw (
-      le-leb (m .depth) 15 (f .few),
-      le-leb (m .mask) 1 (f .bit),
-      each-back (sourceCount (m .controller)) (m .depth) (m .stack) (m .depth) (f .handlers),
-      or-intro (eqb (m .depth) 0) (eqb (currentRank (m .controller) .0) (levelOf (uppermost m) .0))
-          (⊎-elim (λ e. inl (eq-eqb (m .depth) 0 e)) (λ e. inr (eq-eqb _ _ e)) (f .current)),
-      or-intro (eqb (m .mask) 0) (isOpen m) (⊎-elim (λ e. inl (eq-eqb (m .mask) 0 e)) (λ e. inr (open-test m e)) (f .masked)),
+      service.sound (m .service) (sourceCount (m .controller)) (currentRank (m .controller))
+          (record { few = f .few; bit = f .bit; handlers = f .handlers; current = f .current; masked = f .masked }),
       f .controller,
     )
     (f .counters)
@@ -93,7 +80,7 @@ counters-sound m t e h =
 
 -- Another sound controller with the same N, and the same current rank where there is a handler.
 pub controller-sound : (m : Machine) (c : Controller) → soundOf m ≡ true → pic.soundOf c ≡ true → sourceCount c ≡ sourceCount (m .controller)
-    → (m .depth ≡ 0) ⊎ (currentRank c ≡ currentRank (m .controller)) → soundOf (withController m c) ≡ true
+    → (m .service .depth ≡ 0) ⊎ (currentRank c ≡ currentRank (m .controller)) → soundOf (withController m c) ≡ true
 controller-sound m c e h n k =
     let f = facts m e in
     sound (withController m c)
@@ -108,35 +95,35 @@ controller-sound m c e h n k =
     })
 
 -- The uppermost handler.
-pub top-fine : (m : Machine) → Sound m → 0 < m .depth → Fine (sourceCount (m .controller)) (m .depth) (m .stack) (m .depth - 1)
-top-fine m f h = f .handlers (m .depth - 1) (omega arith)
+pub top-fine : (m : Machine) → Sound m → 0 < m .service .depth → Fine (sourceCount (m .controller)) (m .service .depth) (m .service .stack) (m .service .depth - 1)
+top-fine m f h = f .handlers (m .service .depth - 1) (omega arith)
 
 -- Its saved rank is in range.
-pub saved-small : (m : Machine) → Sound m → 0 < m .depth → uppermost m .saved .0 ≤ 15
+pub saved-small : (m : Machine) → Sound m → 0 < m .service .depth → uppermost m .saved .0 ≤ 15
 saved-small m f h = let t = top-fine m f h in omega (arith, t .rank-most, t .saved-less)
 
 -- With the mask on, the current rank is at least the number of handlers.
-current-high : (m : Machine) → Sound m → (m .mask ≡ 0 → ⊥) → m .depth ≤ currentRank (m .controller) .0
+current-high : (m : Machine) → Sound m → (m .service .mask ≡ 0 → ⊥) → m .service .depth ≤ currentRank (m .controller) .0
 current-high m f h = go (f .masked)
   where
-    top : uppermost m .opened ≡ 1 → (m .depth ≡ 0) ⊎ (currentRank (m .controller) .0 ≡ levelOf (uppermost m) .0) → m .depth ≤ currentRank (m .controller) .0
+    top : uppermost m .opened ≡ 1 → (m .service .depth ≡ 0) ⊎ (currentRank (m .controller) .0 ≡ levelOf (uppermost m) .0) → m .service .depth ≤ currentRank (m .controller) .0
     top o (inl e) = omega arith
-    top o (inr e) = deep (m .depth) refl
+    top o (inr e) = deep (m .service .depth) refl
       where
-        deep : (d : ℕ) → m .depth ≡ d → m .depth ≤ currentRank (m .controller) .0
+        deep : (d : ℕ) → m .service .depth ≡ d → m .service .depth ≤ currentRank (m .controller) .0
         deep zero z = omega arith
         deep (suc t) z =
-            let r = rank-high (sourceCount (m .controller)) (m .depth) (m .stack) (m .depth - 1) (omega arith) (f .handlers) in
+            let r = rank-high (sourceCount (m .controller)) (m .service .depth) (m .service .stack) (m .service .depth - 1) (omega arith) (f .handlers) in
             let l : levelOf (uppermost m) .0 ≡ uppermost m .rank .0 = ap (λ (a : Rank). a .0) (level-opened (uppermost m) o) in
             omega arith
 
-    go : (m .mask ≡ 0) ⊎ ((m .depth ≡ 0) ⊎ (uppermost m .opened ≡ 1)) → m .depth ≤ currentRank (m .controller) .0
+    go : (m .service .mask ≡ 0) ⊎ ((m .service .depth ≡ 0) ⊎ (uppermost m .opened ≡ 1)) → m .service .depth ≤ currentRank (m .controller) .0
     go (inl e) = absurd (h e)
     go (inr (inl e)) = omega arith
     go (inr (inr o)) = top o (f .current)
 
 -- A winner above the current rank, with the mask on, leaves a place for one handler more.
-pub room : (m : Machine) → Sound m → (m .mask ≡ 0 → ⊥) → ltZ (pos 0) (lookAt m .margin) ≡ true → m .depth < 15
+pub room : (m : Machine) → Sound m → (m .service .mask ≡ 0 → ⊥) → ltZ (pos 0) (lookAt m .margin) ≡ true → m .service .depth < 15
 room m h k e =
     let c = m .controller in
     let o = margin-over c e in

@@ -28,31 +28,35 @@ use Rattle.pic_laws.proofs.Captures.{look-found, margin-over}
 use Rattle.handlers_stack.specs.declared.Handler.{Handler}
 use Rattle.handlers_stack.specs.Stacks.{blank, handlerAt, belowOf, levelOf}
 use Rattle.handlers_stack.proofs.Stacks.{Fine, Stored, fine-kept, fine-stored, fine-popped, below-next, level-opened, level-unopened, level-same}
+use Rattle.handlers_service.proofs.Facts.{open-cases}
 use Rattle.handlers.specs.declared.Machine.{Machine}
-use Rattle.handlers.specs.Fields.{withController, withMask, withCounters}
-use Rattle.handlers.specs.Machines.{uppermost, isOpen, soundOf, powerOnOf}
-use Rattle.handlers.specs.Service.{lifted, switches, mayStore, mayWrite, lookAt, newHandler, oneMore, taken, marked, opened, serves, replaced, captured, chained, returned}
+use Rattle.handlers.specs.Fields.{withController, withCounters}
+use Rattle.handlers.specs.Machines.{uppermost, soundOf, powerOnOf}
+use Rattle.handlers.specs.Service.{lifted, switches, mayStore, mayWrite, lookAt, captured}
 use Rattle.handlers.specs.Calls.{stepOf}
 use Rattle.handlers_laws.proofs.Cases.{step-cases}
-use Rattle.handlers_laws.proofs.Facts.{Sound, facts, sound, controller-sound, counters-sound, top-fine, open-cases, saved-small, room, served-facts}
+use Rattle.handlers_laws.proofs.Facts.{Sound, facts, sound, controller-sound, counters-sound, top-fine, saved-small, room, served-facts}
+use Rattle.handlers_service.specs.Fields.{withSource, withOpened}
+use Rattle.handlers_service.specs.Events.{oneMore}
+use Rattle.handlers_laws.proofs.Service.{withMask, isOpen, newHandler, taken, opened, serves, chained, returned}
 
 -- A sound machine whose stack has its fifteen places.
 pub record Ready (m : Machine) : Type 0 where
   pub isSound : soundOf m ≡ true
-  pub places : length (m .stack) ≡ 15
+  pub places : length (m .service .stack) ≡ 15
 
-ready : (m : Machine) → Sound m → length (m .stack) ≡ 15 → Ready m
+ready : (m : Machine) → Sound m → length (m .service .stack) ≡ 15 → Ready m
 ready m f p = record { isSound = sound m f; places = p }
 
 with-controller : (m : Machine) (c : Controller) → Ready m → pic.soundOf c ≡ true → sourceCount c ≡ sourceCount (m .controller)
-    → (m .depth ≡ 0) ⊎ (currentRank c ≡ currentRank (m .controller)) → Ready (withController m c)
+    → (m .service .depth ≡ 0) ⊎ (currentRank c ≡ currentRank (m .controller)) → Ready (withController m c)
 with-controller m c r e n k = record { isSound = controller-sound m c (r .isSound) e n k; places = r .places }
 
 -- With the mask on, the current rank is the uppermost handler's.
-pub top-current : (m : Machine) → Sound m → (m .mask ≡ 0 → ⊥) → 0 < m .depth → currentRank (m .controller) .0 ≡ uppermost m .rank .0
+pub top-current : (m : Machine) → Sound m → (m .service .mask ≡ 0 → ⊥) → 0 < m .service .depth → currentRank (m .controller) .0 ≡ uppermost m .rank .0
 top-current m f h d = go (f .masked) (f .current)
   where
-    go : (m .mask ≡ 0) ⊎ ((m .depth ≡ 0) ⊎ (uppermost m .opened ≡ 1)) → (m .depth ≡ 0) ⊎ (currentRank (m .controller) .0 ≡ levelOf (uppermost m) .0)
+    go : (m .service .mask ≡ 0) ⊎ ((m .service .depth ≡ 0) ⊎ (uppermost m .opened ≡ 1)) → (m .service .depth ≡ 0) ⊎ (currentRank (m .controller) .0 ≡ levelOf (uppermost m) .0)
         → currentRank (m .controller) .0 ≡ uppermost m .rank .0
     go (inl e) k = absurd (h e)
     go (inr (inl e)) k = absurd (omega arith)
@@ -60,32 +64,32 @@ top-current m f h d = go (f .masked) (f .current)
     go (inr (inr o)) (inr e) = e ∙ ap (λ (a : Rank). a .0) (level-opened (uppermost m) o)
 
 -- So it is that of the handler below a new one.
-current-below : (m : Machine) → Sound m → (m .mask ≡ 0 → ⊥) → (m .depth ≡ 0) ⊎ (currentRank (m .controller) .0 ≡ belowOf (m .stack) (m .depth) .0)
-current-below m f h = go (m .depth) refl
+current-below : (m : Machine) → Sound m → (m .service .mask ≡ 0 → ⊥) → (m .service .depth ≡ 0) ⊎ (currentRank (m .controller) .0 ≡ belowOf (m .service .stack) (m .service .depth) .0)
+current-below m f h = go (m .service .depth) refl
   where
-    go : (d : ℕ) → m .depth ≡ d → (m .depth ≡ 0) ⊎ (currentRank (m .controller) .0 ≡ belowOf (m .stack) (m .depth) .0)
+    go : (d : ℕ) → m .service .depth ≡ d → (m .service .depth ≡ 0) ⊎ (currentRank (m .controller) .0 ≡ belowOf (m .service .stack) (m .service .depth) .0)
     go zero z = inl z
     go (suc t) z =
-        let i : m .depth - 1 ≡ t = omega arith in
-        inr (top-current m f h (omega arith) ∙ ap (λ (j : ℕ). handlerAt (m .stack) j .rank .0) i
-        ∙ sym (ap (λ (a : Rank). a .0) (ap (belowOf (m .stack)) z ∙ below-next (m .stack) t)))
+        let i : m .service .depth - 1 ≡ t = omega arith in
+        inr (top-current m f h (omega arith) ∙ ap (λ (j : ℕ). handlerAt (m .service .stack) j .rank .0) i
+        ∙ sym (ap (λ (a : Rank). a .0) (ap (belowOf (m .service .stack)) z ∙ below-next (m .service .stack) t)))
 
 -- The uppermost of the others is opened, with the mask on.
-top-opened : (m : Machine) → Sound m → (m .mask ≡ 0 → ⊥) → (j : ℕ) → suc j ≡ m .depth → handlerAt (m .stack) j .opened ≡ 1
+top-opened : (m : Machine) → Sound m → (m .service .mask ≡ 0 → ⊥) → (j : ℕ) → suc j ≡ m .service .depth → handlerAt (m .service .stack) j .opened ≡ 1
 top-opened m f h j e = go (f .masked)
   where
-    go : (m .mask ≡ 0) ⊎ ((m .depth ≡ 0) ⊎ (uppermost m .opened ≡ 1)) → handlerAt (m .stack) j .opened ≡ 1
+    go : (m .service .mask ≡ 0) ⊎ ((m .service .depth ≡ 0) ⊎ (uppermost m .opened ≡ 1)) → handlerAt (m .service .stack) j .opened ≡ 1
     go (inl z) = absurd (h z)
     go (inr (inl z)) = absurd (omega arith)
-    go (inr (inr o)) = let i : m .depth - 1 ≡ j = omega arith in ap (λ (a : ℕ). handlerAt (m .stack) a .opened) (sym i) ∙ o
+    go (inr (inr o)) = let i : m .service .depth - 1 ≡ j = omega arith in ap (λ (a : ℕ). handlerAt (m .service .stack) a .opened) (sym i) ∙ o
 
 -- Take.
-module _ (m : Machine) (r : Ready m) (h : m .mask ≡ 0 → ⊥) (g : ltZ (pos 0) (lookAt m .margin) ≡ true) where
+module _ (m : Machine) (r : Ready m) (h : m .service .mask ≡ 0 → ⊥) (g : ltZ (pos 0) (lookAt m .margin) ≡ true) where
   -- There is a place, so the number of handlers does not wrap.
-  pub one-more : oneMore (m .depth) ≡ m .depth + 1
+  pub one-more : oneMore (m .service .depth) ≡ m .service .depth + 1
   one-more = omega (arith, room m (facts m (r .isSound)) h g)
 
-  new-stored : Stored (m .stack) (m .depth) (newHandler m) (sourceCount (m .controller)) (m .depth + 1)
+  new-stored : Stored (m .service .stack) (m .service .depth) (newHandler m) (sourceCount (m .controller)) (m .service .depth + 1)
   new-stored =
       let s = facts m (r .isSound) in
       let o = margin-over (m .controller) g in
@@ -103,24 +107,24 @@ module _ (m : Machine) (r : Ready m) (h : m .mask ≡ 0 → ⊥) (g : ltZ (pos 0
         saved-less = o .current;
       }
 
-  has-place : m .depth < length (m .stack)
+  has-place : m .service .depth < length (m .service .stack)
   has-place = omega (arith, r .places, room m (facts m (r .isSound)) h g)
 
-  taken-fine : (j : ℕ) → j < m .depth + 1 → Fine (sourceCount (m .controller)) (m .depth + 1) (taken m .stack) j
-  taken-fine j l = go (eq-cases j (m .depth))
+  taken-fine : (j : ℕ) → j < m .service .depth + 1 → Fine (sourceCount (m .controller)) (m .service .depth + 1) (taken m .service .stack) j
+  taken-fine j l = go (eq-cases j (m .service .depth))
     where
-      go : (j ≡ m .depth) ⊎ (j ≡ m .depth → ⊥) → Fine (sourceCount (m .controller)) (m .depth + 1) (taken m .stack) j
-      go (inl e) = rw e (fine-stored (m .stack) (m .depth) (newHandler m) (sourceCount (m .controller)) (m .depth + 1) has-place new-stored)
+      go : (j ≡ m .service .depth) ⊎ (j ≡ m .service .depth → ⊥) → Fine (sourceCount (m .controller)) (m .service .depth + 1) (taken m .service .stack) j
+      go (inl e) = rw e (fine-stored (m .service .stack) (m .service .depth) (newHandler m) (sourceCount (m .controller)) (m .service .depth + 1) has-place new-stored)
       go (inr e) =
           let f = facts m (r .isSound) in
           let k = f .handlers j (omega (arith, e)) in
-          fine-kept (m .stack) (m .depth) (newHandler m) (sourceCount (m .controller)) (m .depth + 1) j (omega (arith, e)) k
+          fine-kept (m .service .stack) (m .service .depth) (newHandler m) (sourceCount (m .controller)) (m .service .depth + 1) j (omega (arith, e)) k
           (⊎-elim (λ z. inr (top-opened m f h j z)) (λ z. inr z) (k .opened))
 
   taken-level : currentRank (m .controller) .0 ≡ levelOf (uppermost (taken m)) .0
   taken-level =
-      let i : oneMore (m .depth) - 1 ≡ m .depth = omega (arith, one-more) in
-      let t : uppermost (taken m) ≡ newHandler m = rw i (getD-set-same (m .stack) (m .depth) (newHandler m) blank has-place) in
+      let i : oneMore (m .service .depth) - 1 ≡ m .service .depth = omega (arith, one-more) in
+      let t : uppermost (taken m) ≡ newHandler m = rw i (getD-set-same (m .service .stack) (m .service .depth) (newHandler m) blank has-place) in
       sym (ap (λ (q : Handler). levelOf q .0) t ∙ ap (λ (a : Rank). a .0) (level-unopened (newHandler m) refl))
 
   taken-ready : Ready (taken m)
@@ -139,9 +143,9 @@ module _ (m : Machine) (r : Ready m) (h : m .mask ≡ 0 → ⊥) (g : ltZ (pos 0
       (simp length-set (r .places))
 
 -- A store over the uppermost handler that keeps its rank, its saved rank and the depth.
-module _ (m : Machine) (r : Ready m) (d : 0 < m .depth) (h : Handler) (sl : 1 ≤ h .source) (sm : h .source ≤ sourceCount (m .controller))
+module _ (m : Machine) (r : Ready m) (d : 0 < m .service .depth) (h : Handler) (sl : 1 ≤ h .source) (sm : h .source ≤ sourceCount (m .controller))
     (hr : h .rank ≡ uppermost m .rank) (hs : h .saved ≡ uppermost m .saved) (ho : h .opened ≤ 1) where
-  over-stored : Stored (m .stack) (m .depth - 1) h (sourceCount (m .controller)) (m .depth)
+  over-stored : Stored (m .service .stack) (m .service .depth - 1) h (sourceCount (m .controller)) (m .service .depth)
   over-stored =
       let t = top-fine m (facts m (r .isSound)) d in
       record {
@@ -156,27 +160,27 @@ module _ (m : Machine) (r : Ready m) (d : 0 < m .depth) (h : Handler) (sl : 1 �
         saved-less = rw (hr, hs) (t .saved-less);
       }
 
-  over-place : m .depth - 1 < length (m .stack)
+  over-place : m .service .depth - 1 < length (m .service .stack)
   over-place = omega (arith, r .places, facts m (r .isSound) .few)
 
-  over-fine : (j : ℕ) → j < m .depth → Fine (sourceCount (m .controller)) (m .depth) (set (m .stack) (m .depth - 1) h) j
-  over-fine j l = go (eq-cases j (m .depth - 1))
+  over-fine : (j : ℕ) → j < m .service .depth → Fine (sourceCount (m .controller)) (m .service .depth) (set (m .service .stack) (m .service .depth - 1) h) j
+  over-fine j l = go (eq-cases j (m .service .depth - 1))
     where
-      go : (j ≡ m .depth - 1) ⊎ (j ≡ m .depth - 1 → ⊥) → Fine (sourceCount (m .controller)) (m .depth) (set (m .stack) (m .depth - 1) h) j
-      go (inl e) = rw e (fine-stored (m .stack) (m .depth - 1) h (sourceCount (m .controller)) (m .depth) over-place over-stored)
+      go : (j ≡ m .service .depth - 1) ⊎ (j ≡ m .service .depth - 1 → ⊥) → Fine (sourceCount (m .controller)) (m .service .depth) (set (m .service .stack) (m .service .depth - 1) h) j
+      go (inl e) = rw e (fine-stored (m .service .stack) (m .service .depth - 1) h (sourceCount (m .controller)) (m .service .depth) over-place over-stored)
       go (inr e) =
           let k = facts m (r .isSound) .handlers j l in
-          fine-kept (m .stack) (m .depth - 1) h (sourceCount (m .controller)) (m .depth) j (omega (arith, e)) k (k .opened)
+          fine-kept (m .service .stack) (m .service .depth - 1) h (sourceCount (m .controller)) (m .service .depth) j (omega (arith, e)) k (k .opened)
 
-  over-top : handlerAt (set (m .stack) (m .depth - 1) h) (m .depth - 1) ≡ h
-  over-top = getD-set-same (m .stack) (m .depth - 1) h blank over-place
+  over-top : handlerAt (set (m .service .stack) (m .service .depth - 1) h) (m .service .depth - 1) ≡ h
+  over-top = getD-set-same (m .service .stack) (m .service .depth - 1) h blank over-place
 
 -- Open.
-opened-ready : (m : Machine) → Ready m → 0 < m .depth → Ready (opened m)
+opened-ready : (m : Machine) → Ready m → 0 < m .service .depth → Ready (opened m)
 opened-ready m r d =
     let s = facts m (r .isSound) in
     let t = top-fine m s d in
-    let q = marked (uppermost m) in
+    let q = withOpened (uppermost m) 1 in
     let e = over-top m r d q (t .source-least) (t .source-most) refl refl (omega arith) in
     ready (opened m)
     (record {
@@ -193,8 +197,8 @@ opened-ready m r d =
     (simp length-set (r .places))
 
 -- Return: below the uppermost, if any, stands an opened handler of its saved rank.
-returned-top : (m : Machine) → Ready m → 0 < m .depth → (k : ℕ) → m .depth - 1 ≡ k
-    → (k ≡ 0) ⊎ ((handlerAt (m .stack) (k - 1) .opened ≡ 1) × (uppermost m .saved .0 ≡ handlerAt (m .stack) (k - 1) .rank .0))
+returned-top : (m : Machine) → Ready m → 0 < m .service .depth → (k : ℕ) → m .service .depth - 1 ≡ k
+    → (k ≡ 0) ⊎ ((handlerAt (m .service .stack) (k - 1) .opened ≡ 1) × (uppermost m .saved .0 ≡ handlerAt (m .service .stack) (k - 1) .rank .0))
 returned-top m r d zero e = inl refl
 returned-top m r d (suc k) e =
     let f = facts m (r .isSound) in
@@ -203,25 +207,25 @@ returned-top m r d (suc k) e =
     let j : suc k - 1 ≡ k = omega arith in
     inr (
       rw j (⊎-elim (λ z. absurd (omega arith)) (λ z. z) (b .opened)),
-      rw j (⊎-elim (λ z. absurd (omega arith)) (λ z. z ∙ ap (λ (a : Rank). a .0) (ap (belowOf (m .stack)) e ∙ below-next (m .stack) k)) (t .saves)),
+      rw j (⊎-elim (λ z. absurd (omega arith)) (λ z. z ∙ ap (λ (a : Rank). a .0) (ap (belowOf (m .service .stack)) e ∙ below-next (m .service .stack) k)) (t .saves)),
     )
 
-returned-ready : (m : Machine) → Ready m → 0 < m .depth → Ready (returned m)
+returned-ready : (m : Machine) → Ready m → 0 < m .service .depth → Ready (returned m)
 returned-ready m r d =
     let s = facts m (r .isSound) in
     let t = top-fine m s d in
-    let k = returned-top m r d (m .depth - 1) refl in
+    let k = returned-top m r d (m .service .depth - 1) refl in
     ready (returned m)
     (record {
       few = omega (arith, s .few);
       bit = omega arith;
       handlers = λ j l.
           rw (current-count (m .controller) (uppermost m .saved))
-          (fine-popped (sourceCount (m .controller)) (m .depth) (m .stack) j (omega arith) (s .handlers j (omega arith)));
+          (fine-popped (sourceCount (m .controller)) (m .service .depth) (m .service .stack) j (omega arith) (s .handlers j (omega arith)));
       current =
           ⊎-elim (λ e. inl e)
           (λ e. inr (ap (λ (a : Rank). a .0) (current-is (m .controller) (uppermost m .saved) (saved-small m s d)) ∙ e .1
-          ∙ sym (ap (λ (a : Rank). a .0) (level-opened (handlerAt (m .stack) (m .depth - 1 - 1)) (e .0)))))
+          ∙ sym (ap (λ (a : Rank). a .0) (level-opened (handlerAt (m .service .stack) (m .service .depth - 1 - 1)) (e .0)))))
           k;
       masked = inr (⊎-elim (λ e. inl e) (λ e. inr (e .0)) k);
       controller = current-sound (m .controller) (s .controller) (uppermost m .saved) (saved-small m s d);
@@ -235,7 +239,7 @@ captured-ready m r =
     let c = m .controller in
     with-controller m (captureOf c (lookAt m .winner)) r (capture-sound c (facts m (r .isSound) .controller)) (capture-count c) (inr (capture-current c))
 
-chained-ready : (m : Machine) → Ready m → 0 < m .depth → serves m ≡ true → Ready (chained m)
+chained-ready : (m : Machine) → Ready m → 0 < m .service .depth → serves m ≡ true → Ready (chained m)
 chained-ready m r d e =
     let c = m .controller in
     let s = facts m (r .isSound) in
@@ -243,7 +247,7 @@ chained-ready m r d e =
     let k = served-facts m s e .found in
     let q = captured-ready m r in
     let f = facts (captured m) (q .isSound) in
-    let h = replaced (uppermost m) (lookAt m .winner .source) in
+    let h = withSource (uppermost m) (lookAt m .winner .source) in
     let n : lookAt m .winner .source ≤ sourceCount (captured m .controller) = rw (capture-count c) (k .winner .eligible .most) in
     let z = over-top (captured m) q d h (k .winner .eligible .least) n refl refl (t .mark) in
     let l : levelOf (uppermost (chained m)) ≡ levelOf (uppermost m) = ap levelOf z ∙ level-same h (uppermost m) refl refl refl in
@@ -269,7 +273,7 @@ masked-ready m r v l e =
       bit = leb-true v 1 l;
       handlers = f .handlers;
       current = f .current;
-      masked = ⊎-elim (λ z. inl (eqb-true v 0 z)) (λ z. inr (open-cases m z)) (or-cases (eqb v 0) (isOpen m) e);
+      masked = ⊎-elim (λ z. inl (eqb-true v 0 z)) (λ z. inr (open-cases (m .service) z)) (or-cases (eqb v 0) (isOpen m) e);
       controller = f .controller;
       counters = f .counters;
     })
@@ -297,14 +301,14 @@ module _ (m : Machine) (r : Ready m) where
   write-ready : (a v : ℕ) → v < 2 ^ 32 → mayWrite m a ≡ true → Ready (lifted m (csrs.csrWriteOf (m .controller) a v) .machine)
   write-ready a v b f =
       with-controller m _ r (csr-write-sound (m .controller) is-sound-controller a v b) (csr-write-count (m .controller) a v)
-      (⊎-elim (λ g. inr (csr-write-current (m .controller) a v (λ z. eqb-false a 0xBCC (not-true _ g) z))) (λ g. inl (eqb-true (m .depth) 0 g))
-      (or-cases (not (eqb a 0xBCC)) (eqb (m .depth) 0) f))
+      (⊎-elim (λ g. inr (csr-write-current (m .controller) a v (λ z. eqb-false a 0xBCC (not-true _ g) z))) (λ g. inl (eqb-true (m .service .depth) 0 g))
+      (or-cases (not (eqb a 0xBCC)) (eqb (m .service .depth) 0) f))
 
   store-ready : (a v : ℕ) → mayStore m a v ≡ true → Ready (lifted m (registers.storeOf (m .controller) a v) .machine)
   store-ready a v f =
       with-controller m _ r (store-sound (m .controller) is-sound-controller a v) (store-count (m .controller) a v)
-      (⊎-elim (λ g. inr (store-current (m .controller) a v (kept-order m a v (not-true _ g)))) (λ g. inl (eqb-true (m .depth) 0 g))
-      (or-cases (not (switches m a v)) (eqb (m .depth) 0) f))
+      (⊎-elim (λ g. inr (store-current (m .controller) a v (kept-order m a v (not-true _ g)))) (λ g. inl (eqb-true (m .service .depth) 0 g))
+      (or-cases (not (switches m a v)) (eqb (m .service .depth) 0) f))
 
   -- Every event keeps a sound machine sound.
   pub step-ready : (head v : ℕ) → v < 2 ^ 32 → Ready (stepOf m head v .machine)
@@ -322,16 +326,16 @@ module _ (m : Machine) (r : Ready m) where
         counter-reads = λ f. r;
         writes = λ f. write-ready a v b f;
         counter-writes = λ f. with-counters m _ r (written-sound (m .counters) (counters.csrAt a) v f b (facts m (r .isSound) .counters));
-        takes = λ f g. taken-ready m r (λ z. let o = eqb-true (m .mask) 1 f in omega arith) g;
-        opens = λ f. opened-ready m r (ltb-true 0 (m .depth) f);
-        chains = λ f e. chained-ready m r (ltb-true 0 (m .depth) f) e;
+        takes = λ f g. taken-ready m r (λ z. let o = eqb-true (m .service .mask) 1 f in omega arith) g;
+        opens = λ f. opened-ready m r (ltb-true 0 (m .service .depth) f);
+        chains = λ f e. chained-ready m r (ltb-true 0 (m .service .depth) f) e;
         passes = captured-ready m r;
-        returns = λ f. returned-ready m r (ltb-true 0 (m .depth) f);
+        returns = λ f. returned-ready m r (ltb-true 0 (m .service .depth) f);
         masks = λ f g. masked-ready m r v f g;
         clocks = with-counters m _ r (clock-sound (m .counters) (facts m (r .isSound) .counters));
         errors = λ f. let l = leb-true a 2 f in with-counters m _ r (error-sound (m .counters) a (omega (arith, l)) (facts m (r .isSound) .counters));
         looks = r;
-        commits = λ f e. chained-ready m r (ltb-true 0 (m .depth) f) e;
+        commits = λ f e. chained-ready m r (ltb-true 0 (m .service .depth) f) e;
       })
 
 -- Power-on is sound, also with an N that it refuses.
@@ -351,6 +355,6 @@ power-on-ready n =
     refl
 
 -- It has no handler.
-pub power-on-empty : (n : ℕ) → powerOnOf n .machine .depth ≡ 0
+pub power-on-empty : (n : ℕ) → powerOnOf n .machine .service .depth ≡ 0
 unfolding powerOnOf
 power-on-empty n = refl

@@ -1,4 +1,5 @@
 -- Laws of the machine for the layers above.
+pub mod Service
 pub mod Facts
 pub mod Cases
 pub mod Kept

@@ -29,7 +29,7 @@ use Rattle.handlers_laws.proofs.Kept.{kept-order, power-on-ready, power
 -- 24 is asked of 0x3000 alone, which is below 0x8000 and a multiple of 4, so the controller's questions come before it.
 pub store-questions : StoreQuestions
 unfolding storeOf storeEvent
-store-questions m o v e = rw e (go (eqb o 0x3000) refl (not (eqb (v % 2) (priorityOrder (m .controller)))) (eqb (m .depth) 0))
+store-questions m o v e = rw e (go (eqb o 0x3000) refl (not (eqb (v % 2) (priorityOrder (m .controller)))) (eqb (m .service .depth) 0))
   where
     go : (t : Bool) → eqb o 0x3000 ≡ t → (x y : Bool)
         → ask m (not (t && x) || y) 24 (lifted m (registers.storeOf (m .controller) o v)) .refusal
@@ -52,12 +52,12 @@ unfolding storeOf storeEvent
 order-stored m v e =
     record {
       same = λ h. rw (e, eq-eqb (v % 2) (priorityOrder (m .controller)) h) (order-lifted m v ∙ own-order m h);
-      open-handler = λ d l. rw (e, ne-eqb (v % 2) (priorityOrder (m .controller)) d, ne-eqb (m .depth) 0 (λ z. omega arith));
-      no-handler = λ d z. rw (e, ne-eqb (v % 2) (priorityOrder (m .controller)) d, eq-eqb (m .depth) 0 z) (order-lifted m v);
+      open-handler = λ d l. rw (e, ne-eqb (v % 2) (priorityOrder (m .controller)) d, ne-eqb (m .service .depth) 0 (λ z. omega arith));
+      no-handler = λ d z. rw (e, ne-eqb (v % 2) (priorityOrder (m .controller)) d, eq-eqb (m .service .depth) 0 z) (order-lifted m v);
     }
 
 -- With no handler, either priord leaves a machine sound.
-order-sound : (m : Machine) (v : ℕ) → soundOf m ≡ true → m .depth ≡ 0 → soundOf (withOrder m (v % 2)) ≡ true
+order-sound : (m : Machine) (v : ℕ) → soundOf m ≡ true → m .service .depth ≡ 0 → soundOf (withOrder m (v % 2)) ≡ true
 order-sound m v e z =
     let s : pic.soundOf (ordered (m .controller) (v % 2)) ≡ true = rw (store-order (m .controller) v) at (store-sound (m .controller) (facts m e .controller) 0x3000 v) in
     controller-sound m (ordered (m .controller) (v % 2)) e s (ordered-count (m .controller) (v % 2)) (inl z)
@@ -91,8 +91,8 @@ store-keeps-current m o v f = rw f (go (soundOf m))
     go false = refl
 
 -- What may come only while no handler is open does not come while one is.
-unless : (m : Machine) (asked : Bool) → 0 < m .depth → (not asked || eqb (m .depth) 0) ≡ true → asked ≡ false
-unless m asked d f = ⊎-elim (λ g. not-true _ g) (λ g. absurd (let z = eqb-true (m .depth) 0 g in omega arith)) (or-cases (not asked) (eqb (m .depth) 0) f)
+unless : (m : Machine) (asked : Bool) → 0 < m .service .depth → (not asked || eqb (m .service .depth) 0) ≡ true → asked ≡ false
+unless m asked d f = ⊎-elim (λ g. not-true _ g) (λ g. absurd (let z = eqb-true (m .service .depth) 0 g in omega arith)) (or-cases (not asked) (eqb (m .service .depth) 0) f)
 
 pub current-kept : CurrentKept
 current-kept m head v d =

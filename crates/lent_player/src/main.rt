@@ -89,7 +89,7 @@ fn put_end(out: &mut [u8], at: usize, m: Machine) -> usize
     let q = m.margin();
     let c = m.controller;
     let level = c.current_rank();
-    let a = put_number(out, at, b"end open ", m.depth as u64);
+    let a = put_number(out, at, b"end open ", m.service.depth as u64);
     let b = put_number(out, a, b" level ", level.0 as u64);
     let e = put_margin(out, b, q.margin);
     put(out, e, b"\n")

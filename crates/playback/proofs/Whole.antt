@@ -58,7 +58,7 @@ last-fits n at depth level below size h = omega (arith, h, last-length depth lev
 
 -- The last line of a machine.
 pub end-line-is : (m : Machine) {level : Rank} {q : Margin} {below : Bool} {size : ℕ} → level ≡ currentRank (m .controller) → q ≡ marginAnswer m
-    → below ≡ ltZ (q .margin) (pos 0) → size ≡ natAbs (q .margin) → lastLine (m .depth) (level .0) below size ≡ endLine m
+    → below ≡ ltZ (q .margin) (pos 0) → size ≡ natAbs (q .margin) → lastLine (m .service .depth) (level .0) below size ≡ endLine m
 end-line-is m el eq eb es = rw (eb, es, eq, el)
 
 -- There is room for each part.
@@ -78,7 +78,7 @@ end-fits out sources n lines {d₁} {d₂} {a} {b} h (e₁, f₁) (e₂, f₂) m
     rw (f₂, length-sets d₁ a lines, f₁, length-sets out 0 (firstLine sources n)) (omega (arith, h, e₁, most, first-length sources n))
 
 end-length : (m : Machine) → length (endLine m) ≤ lastLineSize
-end-length m = last-length (m .depth) (currentRank (m .controller) .0) (ltZ (marginAnswer m .margin) (pos 0)) (natAbs (marginAnswer m .margin))
+end-length m = last-length (m .service .depth) (currentRank (m .controller) .0) (ltZ (marginAnswer m .margin) (pos 0)) (natAbs (marginAnswer m .margin))
 
 -- The whole print of a record that is played.
 pub played-print : (sources : ℕ) (hs vs answers₀ refusals₀ out : List ℕ) {p : Played} {answers refusals d₁ d₂ d₃ : List ℕ} {a b r : ℕ}

@@ -48,7 +48,7 @@ lastLine depth level below size =
 -- Open, as a number, is how many handlers are on the stack; level is current's rank.
 abbrev pub endLine : Machine → List ℕ
 endLine m =
-    lastLine (m .depth) (currentRank (m .controller) .0) (ltZ (marginAnswer m .margin) (pos 0)) (natAbs (marginAnswer m .margin))
+    lastLine (m .service .depth) (currentRank (m .controller) .0) (ltZ (marginAnswer m .margin) (pos 0)) (natAbs (marginAnswer m .margin))
 
 -- A bad record prints only, say, `refused 4 at 0`.
 abbrev pub refusedLine : ℕ → ℕ → List ℕ

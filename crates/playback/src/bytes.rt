@@ -72,7 +72,7 @@ fn put_end(out: &mut [u8], at: usize, m: Machine) -> usize
     let level = c.current_rank();
     let below = is_below(q.margin);
     let far = size(q.margin);
-    put_last(out, at, m.depth as u64, level.0 as u64, below, far)
+    put_last(out, at, m.service.depth as u64, level.0 as u64, below, far)
 }
 
 // Plays the events from power-on, with places for what they answer and are refused with, and puts their print at the start.

@@ -22,7 +22,7 @@ use Rattle.playback_numbers.specs.Numbers.{acceptedWith, refusedWith, nu
 
 -- The numbers of a machine, as the queries answered them.
 pub accepted-is : (n count : ℕ) (m : Machine) {level : Rank} {q : Margin} {z : ℤ} → level ≡ currentRank (m .controller) → q ≡ marginAnswer m → z ≡ q .margin
-    → _≡_ {A = Numbers} (record { refusal = 0; place = 0; sources = n; events = count; depth = m .depth; level = level .0; margin = z }) (acceptedWith n count m)
+    → _≡_ {A = Numbers} (record { refusal = 0; place = 0; sources = n; events = count; depth = m .service .depth; level = level .0; margin = z }) (acceptedWith n count m)
 accepted-is n count m el eq ez = rw (ez, eq, el)
 
 -- The result, and what stands in the two arrays.

@@ -33,7 +33,7 @@ acceptedWith n count m =
       place = 0;
       sources = n;
       events = count;
-      depth = m .depth;
+      depth = m .service .depth;
       level = currentRank (m .controller) .0;
       margin = marginAnswer m .margin;
     }

@@ -41,7 +41,7 @@ fn accepted(sources: u8, events: u16, m: Machine) -> Numbers
         place: 0,
         sources,
         events,
-        depth: m.depth,
+        depth: m.service.depth,
         level: level.0,
         margin: q.margin,
     }

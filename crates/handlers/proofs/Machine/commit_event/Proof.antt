@@ -1,26 +1,24 @@
 use Rattle.handlers.specs.Service.{commitEvent}
-use Rattle.handlers.proofs.Answers.{handler-no, handler-yes}
 use borrow.Author.Needs.{needs}
 use Rattle.handlers.proofs.Machine.commit_event.Statement.{statement}
 use Rattle.handlers.proofs.Machine.commit_event.Tie as tie
 
-handler-question-requires : tie.Need-handler-question-requires
-handler-question-requires c κs = search needs
+look-requires : tie.Need-look-requires
+look-requires c κs = search needs
 
-refuse-requires : tie.Need-refuse-requires
-refuse-requires c κs = search needs
+commit-requires : tie.Need-commit-requires
+commit-requires c κs = search needs
+
+capture-requires : tie.Need-capture-requires
+capture-requires c κs = search needs
+
+served-requires : tie.Need-served-requires
+served-requires c κs = search needs
 
 returns : tie.Need-returns
 unfolding commitEvent
-returns c = rw (handler-no _ _ (c .before .before .handler-question .ensures) (c .before .if1 .taken)) (c .refuse .ensures)
-
-serve-requires : tie.Need-serve-requires
-serve-requires c κs = search needs
-
-returns-2 : tie.Need-returns-2
-unfolding commitEvent
-returns-2 c = rw (handler-yes _ _ (c .before .before .handler-question .ensures) (c .before .if1 .left)) (c .serve .ensures)
+returns c = rw (c .served .ensures, c .before .capture .ensures, c .before .before .commit .ensures, c .before .before .before .look .ensures)
 
 pub commit-event-spec : {M : Type 1} → statement M
 commit-event-spec =
-    tie.close (tie.spec handler-question-requires refuse-requires returns serve-requires returns-2)
+    tie.close (tie.spec look-requires commit-requires capture-requires served-requires returns)

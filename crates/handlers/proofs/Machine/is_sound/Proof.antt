@@ -2,21 +2,15 @@ use Rattle.handlers.specs.Machines.{soundOf}
 use borrow.Author.Needs.{needs}
 use Rattle.handlers.proofs.Machine.is_sound.Statement.{statement}
 use Rattle.handlers.proofs.Machine.is_sound.Tie as tie
-
-uppermost-requires : tie.Need-uppermost-requires
-uppermost-requires c κs = search needs
-
-level-requires : tie.Need-level-requires
-level-requires c κs = search needs
-
-current-rank-requires : tie.Need-current-rank-requires
-current-rank-requires c κs = search needs
+use Rattle.counters.proofs.Counters.is_sound.Reads as Counters-is-sound-reads
+use Rattle.handlers_service.proofs.Service.is_sound.Reads as Service-is-sound-reads
+use Rattle.pic.proofs.Controller.is_sound.Reads as Controller-is-sound-reads
 
 source-count-requires : tie.Need-source-count-requires
 source-count-requires c κs = search needs
 
-handlers-sound-requires : tie.Need-handlers-sound-requires
-handlers-sound-requires c κs = search needs
+current-rank-requires : tie.Need-current-rank-requires
+current-rank-requires c κs = search needs
 
 is-sound-requires : tie.Need-is-sound-requires
 is-sound-requires c κs = search needs
@@ -24,19 +18,20 @@ is-sound-requires c κs = search needs
 is-sound-requires-2 : tie.Need-is-sound-requires-2
 is-sound-requires-2 c κs = search needs
 
+is-sound-requires-3 : tie.Need-is-sound-requires-3
+is-sound-requires-3 c κs = search needs
+
 returns : tie.Need-returns
 unfolding soundOf
-returns c = rw (c .is-sound2 .ensures, c .before .is-sound .ensures, c .before .before .before .before .before .before .handlers-sound .ensures, c .before .before .before .before .before .before .before .source-count .ensures, c .before .before .before .before .before .before .before .before .before .current-rank .ensures, c .before .before .before .before .before .before .before .before .before .before .level .ensures, c .before .before .before .before .before .before .before .before .before .before .before .uppermost .ensures)
+returns c = rw (c .is-sound3 .ensures, c .before .is-sound2 .ensures, c .before .before .is-sound .ensures, c .before .before .before .current-rank .ensures, c .before .before .before .before .source-count .ensures)
 
 pub is-sound-spec : {M : Type 1} → statement M
 is-sound-spec =
     tie.close
     (tie.spec
-    uppermost-requires
-    level-requires
-    current-rank-requires
     source-count-requires
-    handlers-sound-requires
+    current-rank-requires
     is-sound-requires
     is-sound-requires-2
+    is-sound-requires-3
     returns)

@@ -1,44 +1,25 @@
 use Rattle.handlers.specs.Service.{returnEvent}
-use Rattle.handlers.proofs.Answers.{handler-no, handler-yes}
 use borrow.Author.Needs.{needs}
 use Rattle.handlers.proofs.Machine.return_event.Statement.{statement}
 use Rattle.handlers.proofs.Machine.return_event.Tie as tie
 
-handler-question-requires : tie.Need-handler-question-requires
-handler-question-requires c κs = search needs
+uppermost-requires : tie.Need-uppermost-requires
+uppermost-requires c κs = search needs
 
-refuse-requires : tie.Need-refuse-requires
-refuse-requires c κs = search needs
+return-from-requires : tie.Need-return-from-requires
+return-from-requires c κs = search needs
+
+set-current-requires : tie.Need-set-current-requires
+set-current-requires c κs = search needs
+
+served-requires : tie.Need-served-requires
+served-requires c κs = search needs
 
 returns : tie.Need-returns
 unfolding returnEvent
-returns c = rw (handler-no _ _ (c .before .before .handler-question .ensures) (c .before .if1 .taken)) (c .refuse .ensures)
-
-pop-requires : tie.Need-pop-requires
-pop-requires c κs = search needs
-
-one-less-requires : tie.Need-one-less-requires
-one-less-requires c κs = search needs
-
-cast-accept : tie.Need-cast-accept
-cast-accept c = search needs
-
-accept-requires : tie.Need-accept-requires
-accept-requires c κs = search needs
-
-returns-2 : tie.Need-returns-2
-unfolding returnEvent
-returns-2 c = rw (handler-yes _ _ (c .before .before .before .before .handler-question .ensures) (c .before .before .before .if1 .left), c .accept .ensures, c .before .before .pop .ensures, c .before .one-less .ensures)
+returns c = rw (c .served .ensures, c .before .set-current .ensures, c .before .before .return-from .ensures, c .before .before .before .uppermost .ensures)
 
 pub return-event-spec : {M : Type 1} → statement M
 return-event-spec =
     tie.close
-    (tie.spec
-    handler-question-requires
-    refuse-requires
-    returns
-    pop-requires
-    one-less-requires
-    cast-accept
-    accept-requires
-    returns-2)
+    (tie.spec uppermost-requires return-from-requires set-current-requires served-requires returns)

@@ -1,53 +1,17 @@
-use mathlib.Core.Bool.{_||_}
-use lib.Dec.{eqb}
-use borrow.Author.Tests.{le-leb, lt-leb, not-true, not-false}
 use Rattle.handlers.specs.Service.{setMaskEvent}
 use borrow.Author.Needs.{needs}
 use Rattle.handlers.proofs.Machine.set_mask_event.Statement.{statement}
 use Rattle.handlers.proofs.Machine.set_mask_event.Tie as tie
 
-refuse-requires : tie.Need-refuse-requires
-refuse-requires c κs = search needs
+set-mask-requires : tie.Need-set-mask-requires
+set-mask-requires c κs = search needs
+
+served-requires : tie.Need-served-requires
+served-requires c κs = search needs
 
 returns : tie.Need-returns
 unfolding setMaskEvent
-returns c = rw (lt-leb _ 1 (c .before .if1 .taken)) (c .refuse .ensures)
-
-top-requires : tie.Need-top-requires
-top-requires c κs = search needs
-
-refuse-requires-2 : tie.Need-refuse-requires-2
-refuse-requires-2 c κs = search needs
-
-returns-2 : tie.Need-returns-2
-unfolding setMaskEvent
-returns-2 c =
-    let h = c .before .before .before .before .top .result in
-    let m = c .before .before .before .before .before .before .args .self in
-    rw (le-leb _ 1 (c .before .before .before .before .before .if1 .left), ← c .before .before .before .before .top .ensures, not-true (eqb (c .before .before .before .before .before .before .args .v) 0 || (eqb (m .depth) 0 || eqb (h .opened) 1)) (c .before .if2 .taken)) (c .refuse2 .ensures)
-
-cast-self : tie.Need-cast-self
-cast-self c = search needs
-
-accept-requires : tie.Need-accept-requires
-accept-requires c κs = search needs
-
-returns-3 : tie.Need-returns-3
-unfolding setMaskEvent
-returns-3 c =
-    let h = c .before .before .before .before .top .result in
-    let m = c .before .before .before .before .before .before .args .self in
-    rw (le-leb _ 1 (c .before .before .before .before .before .if1 .left), ← c .before .before .before .before .top .ensures, not-false (eqb (c .before .before .before .before .before .before .args .v) 0 || (eqb (m .depth) 0 || eqb (h .opened) 1)) (c .before .if2 .left)) (c .accept .ensures)
+returns c = rw (c .served .ensures, c .before .set-mask .ensures)
 
 pub set-mask-event-spec : {M : Type 1} → statement M
-set-mask-event-spec =
-    tie.close
-    (tie.spec
-    refuse-requires
-    returns
-    top-requires
-    refuse-requires-2
-    returns-2
-    cast-self
-    accept-requires
-    returns-3)
+set-mask-event-spec = tie.close (tie.spec set-mask-requires served-requires returns)

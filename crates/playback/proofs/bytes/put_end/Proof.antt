@@ -32,7 +32,7 @@ cast-put-last-2 c = search needs
 put-last-requires : tie.Need-put-last-requires
 put-last-requires c κs =
     let s = c .before .before .before .before .before .before .before .before .before .before .before in
-    last-fits (length (denote.Ref.now (s .args .out))) (s .args .at) (s .args .m .depth) (c .before .before .before .before .before .before .before .current-rank .result .0) (c .before .before .before .before .before .is-below .result) (c .before .before .before .size .result) (s .pre)
+    last-fits (length (denote.Ref.now (s .args .out))) (s .args .at) (s .args .m .service .depth) (c .before .before .before .before .before .before .before .current-rank .result .0) (c .before .before .before .before .before .is-below .result) (c .before .before .before .size .result) (s .pre)
 
 same-length : tie.Need-same-length
 same-length c = search needs

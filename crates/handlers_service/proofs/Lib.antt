@@ -1,0 +1,3 @@
+-- Laws of the handler service.
+pub mod Answers
+pub mod Facts
