@@ -1,40 +1,22 @@
--- The words of the rows of a table.
-use Prim.Native.Nat.{ℕ, _≤_}
+-- The words of the rows of a table, and the text that has them line by line.
+use Prim.Native.Nat.{ℕ, zero, suc, _+_, _≤_}
 use Prim.Native.String.{String}
 use native.Mathlib.Omega.{arith}
-use borrow.Author.Tests.{leb-true, ne-eqb}
+use borrow.Author.Tests.{leb-true, eq-eqb, ne-eqb, eqb-true}
 use mathlib.Core.Bool.{Bool, true, false, _&&_, cond, true≢false}
-use mathlib.Core.Path.{_≡_, refl, sym}
-use mathlib.Core.List.{List, [], _∷_, _++_, append-nil}
-use lib.ListN.{length}
+use mathlib.Core.Path.{_≡_, refl, sym, _∙_}
+use mathlib.Core.List.{List, [], _∷_, _++_}
+use lib.ListN.{length, drop}
 use lib.Dec.{leb, eqb}
 use Rattle.digits.specs.Ascii.{ascii}
-use Rattle.refusals.specs.Words.{recordRows, eventRows, wordsIn, wordsOf, wordsSize}
+use Rattle.refusals.specs.Lines.{startOf, firstLine, lineAt}
+use Rattle.refusals.specs.Words.{refusalRows, wordsIn, wordsOf, wordsSize}
+use Rattle.refusals.proofs.Lines.{start-none}
 
 -- Both of two tests.
 both : (a b : Bool) → a && b ≡ true → (a ≡ true) × (b ≡ true)
 both true b e = (refl, e)
 both false b e = absurd (true≢false (sym e))
-
--- P, and the number of no row is n.
-abbrev pub NoneOf : ℕ → Type 0 → List (ℕ × String) → Type 0
-NoneOf n P [] = P
-NoneOf n P ((number, words) ∷ rows) = NoneOf n (P × (n ≡ number → ⊥)) rows
-
--- Such a number has the words that rows behind them give it.
-behind-in : (n : ℕ) (P : Type 0) (rows more : List (ℕ × String)) → NoneOf n P rows → (wordsIn (rows ++ more) n ≡ wordsIn more n) × P
-unfolding wordsIn
-behind-in n P [] more p = (refl, p)
-behind-in n P ((number, words) ∷ rows) more p =
-    let (same, (q, other)) = behind-in n (P × (n ≡ number → ⊥)) rows more p in
-    (rw (ne-eqb n number other) same, q)
-
-pub behind : (n : ℕ) (P : Type 0) (rows more : List (ℕ × String)) → NoneOf n P rows → wordsIn (rows ++ more) n ≡ wordsIn more n
-behind n P rows more p = behind-in n P rows more p .0
-
-pub none-in : (n : ℕ) (P : Type 0) (rows : List (ℕ × String)) → NoneOf n P rows → wordsIn rows n ≡ []
-unfolding wordsIn
-none-in n P rows p = rw (append-nil rows) at (behind n P rows [] p)
 
 -- The words of each row have at most so many bytes.
 abbrev short : ℕ → List (ℕ × String) → Bool
@@ -53,5 +35,60 @@ most-in most ((number, words) ∷ rows) e n =
     by-case false h l = l
 
 pub words-most : (n : ℕ) → length (wordsOf n) ≤ wordsSize
-unfolding recordRows eventRows ascii
-words-most = most-in wordsSize (recordRows ++ eventRows) refl
+unfolding refusalRows ascii
+words-most = most-in wordsSize refusalRows refl
+
+-- The words of the rows, a line feed after each.
+abbrev pub lines : List (ℕ × String) → List ℕ
+lines [] = []
+lines ((number, words) ∷ rows) = ascii words ++ (10 ∷ lines rows)
+
+-- No line feed stands in a text.
+abbrev oneLine : List ℕ → Bool
+oneLine [] = true
+oneLine (c ∷ text) = cond (eqb c 10) false (oneLine text)
+
+-- The rows are numbered from k on, and each has words of one line.
+abbrev numbered : ℕ → List (ℕ × String) → Bool
+numbered k [] = true
+numbered k ((number, words) ∷ rows) = eqb number k && (oneLine (ascii words) && numbered (suc k) rows)
+
+-- Such a text is the first line of what it begins, and the next line starts after it.
+line-first : (text rest : List ℕ) → oneLine text ≡ true → firstLine (text ++ (10 ∷ rest)) ≡ text
+unfolding firstLine
+line-first [] rest e = refl
+line-first (c ∷ text) rest e = by-case (eqb c 10) (line-first text rest) e
+  where
+    by-case : (b : Bool) → (oneLine text ≡ true → firstLine (text ++ (10 ∷ rest)) ≡ text) → cond b false (oneLine text) ≡ true
+        → cond b [] (c ∷ firstLine (text ++ (10 ∷ rest))) ≡ c ∷ text
+    by-case true ih e = absurd (true≢false (sym e))
+    by-case false ih e = rw (ih e)
+
+line-next : (text rest : List ℕ) (n : ℕ) → oneLine text ≡ true → lineAt (text ++ (10 ∷ rest)) (suc n) ≡ lineAt rest n
+unfolding startOf
+line-next [] rest n e = refl
+line-next (c ∷ text) rest n e = by-case (eqb c 10) (line-next text rest n) e
+  where
+    by-case : (b : Bool) → (oneLine text ≡ true → lineAt (text ++ (10 ∷ rest)) (suc n) ≡ lineAt rest n) → cond b false (oneLine text) ≡ true
+        → firstLine (drop (startOf (text ++ (10 ∷ rest)) (cond b n (suc n))) (text ++ (10 ∷ rest))) ≡ lineAt rest n
+    by-case true ih e = absurd (true≢false (sym e))
+    by-case false ih e = ih e
+
+-- So line n has the words of the row that is n further.
+line-in : (k : ℕ) (rows : List (ℕ × String)) → numbered k rows ≡ true → (n j : ℕ) → j ≡ n + k → lineAt (lines rows) n ≡ wordsIn rows j
+unfolding wordsIn startOf firstLine
+line-in k [] e n j h = refl
+line-in k ((number, words) ∷ rows) e n j h =
+    let (here, more) = both (eqb number k) (oneLine (ascii words) && numbered (suc k) rows) e in
+    let (one, rest) = both (oneLine (ascii words)) (numbered (suc k) rows) more in
+    by-case n (eqb-true number k here) one h (line-in (suc k) rows rest)
+  where
+    by-case : (n : ℕ) → number ≡ k → oneLine (ascii words) ≡ true → j ≡ n + k → ((m j : ℕ) → j ≡ m + suc k → lineAt (lines rows) m ≡ wordsIn rows j)
+        → lineAt (ascii words ++ (10 ∷ lines rows)) n ≡ cond (eqb j number) (ascii words) (wordsIn rows j)
+    by-case zero same one h ih = rw (eq-eqb j number (omega arith), start-none (ascii words ++ (10 ∷ lines rows))) (line-first (ascii words) (lines rows) one)
+    by-case (suc n) same one h ih = rw (ne-eqb j number (λ e. omega arith)) (line-next (ascii words) (lines rows) n one ∙ ih n j (omega arith))
+
+pub line-words : (n : ℕ) → lineAt (10 ∷ lines refusalRows) n ≡ wordsOf n
+unfolding startOf firstLine wordsIn refusalRows ascii
+line-words zero = refl
+line-words (suc n) = line-in 1 refusalRows refl n (suc n) (omega arith)

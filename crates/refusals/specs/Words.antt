@@ -2,13 +2,13 @@
 use Prim.Native.Nat.{ℕ}
 use Prim.Native.String.{String}
 use mathlib.Core.Bool.{cond}
-use mathlib.Core.List.{List, [], _∷_, _++_}
+use mathlib.Core.List.{List, [], _∷_}
 use lib.Dec.{eqb}
 use Rattle.digits.specs.Ascii.{ascii}
 
--- Each number is that of the question of document 01 or 02 that was answered no. Questions about a record or a machine that is handed in:
-unfoldable pub recordRows : List (ℕ × String)
-recordRows =
+-- Each number is that of the question of document 01 or 02 that was answered no.
+unfoldable pub refusalRows : List (ℕ × String)
+refusalRows =
     (1, "fewer than 8 bytes")
     ∷ (2, "N is not 2 to 255")
     ∷ (3, "more than 4,000 events")
@@ -17,15 +17,7 @@ recordRows =
     ∷ (6, "the kind is not 0 to 13")
     ∷ (7, "an address or a value that the kind does not use is not 0")
     ∷ (8, "the machine handed in is not sound")
-    ∷ (22, "N is above 63, the compact player's most")
-    ∷ (23, "more than 500 events, the compact player's most")
-    ∷ (27, "kind 7 is no longer written: chain by look and commit, 12 and 13")
-    ∷ []
-
--- Questions about an event:
-unfoldable pub eventRows : List (ℕ × String)
-eventRows =
-    (9, "the word number is above 7")
+    ∷ (9, "the word number is above 7")
     ∷ (10, "the offset is 0x8000 or more")
     ∷ (11, "the offset is not a multiple of 4")
     ∷ (12, "the address is none of the fifteen CSRs")
@@ -38,9 +30,12 @@ eventRows =
     ∷ (19, "interrupts are on")
     ∷ (20, "the value is not 0 or 1")
     ∷ (21, "interrupts on, while the uppermost handler is not opened")
+    ∷ (22, "N is above 63, the compact player's most")
+    ∷ (23, "more than 500 events, the compact player's most")
     ∷ (24, "priord is switched while a handler is open")
     ∷ (25, "the error counter's number is above 2")
     ∷ (26, "the committed number is 0 or is not what a look would answer")
+    ∷ (27, "kind 7 is no longer written: chain by look and commit, 12 and 13")
     ∷ []
 
 -- The words of the first row with this number; none where no row has it.
@@ -50,7 +45,7 @@ wordsIn ((number, words) ∷ rows) n = cond (eqb n number) (ascii words) (wordsI
 
 -- The words of a refusal.
 abbrev pub wordsOf : ℕ → List ℕ
-wordsOf = wordsIn (recordRows ++ eventRows)
+wordsOf = wordsIn refusalRows
 
 -- No refusal has more bytes of words.
 abbrev pub wordsSize : ℕ
