@@ -1,9 +1,11 @@
 // Text and numbers put into a lent buffer, one piece after the other.
 
 ghost use mathlib.Core.Path.{_≡_};
-ghost use Prim.Native.Nat.{_+_, _-_, _≤_, _<_};
+ghost use Prim.Native.Nat.{_+_, _≤_, _<_};
+ghost use mathlib.Core.List.{[], _∷_};
 ghost use lib.ListN.{length};
 ghost use lib.Seq.{sets};
+ghost use lib.Dec.{leb};
 ghost use Rattle.digits.specs.Digits.{digitsTo, decimal, hexadecimal};
 ghost use Rattle.digits.specs.Digits.{glyph as glyphOf};
 ghost use Rattle.digits.specs.Put.{putAt, placeAfter};
@@ -20,29 +22,32 @@ fn glyph(d: u64) -> u8
     }
 }
 
-// n - 1, and 0 for 0.
-fn one_less(n: usize) -> usize
-    ensures { λ r. ⌜ r ≡ n - 1 ⌝ }
+// How many digits n has.
+fn count_digits(base: u64, least: usize, most: usize, n: u64) -> usize
+    requires { ⌜ (1 < base) × (0 < most) ⌝ }
+    ensures { λ r. ⌜ r ≡ length (digitsTo base least most n) ⌝ }
 {
-    if n == 0 { 0 } else { n - 1 }
+    let mut k: usize = 1;
+    let mut left = n;
+    while (k < most) & !((left < base) & (least <= k)) {
+        left = left / base;
+        k += 1;
+    }
+    k
 }
 
-// Stores the digits of n at the start of out, and answers how many there are.
-fn put_digits(out: &mut [u8], base: u64, least: usize, most: usize, n: u64) -> usize
-    requires { ⌜ (1 < base) × (base ≤ 16) × (most ≤ length (now out)) ⌝ }
-    ensures { λ r. ⌜ r ≡ length (digitsTo base least most n) ⌝ }
-    ensures { λ _. ⌜ now (out .exit) ≡ sets (now (out .entry)) 0 (digitsTo base least most n) ⌝ }
+// Stores the last k digits of n from a place on, the last one first.
+fn store_digits(buffer: &mut [u8], at: usize, base: u64, k: usize, n: u64)
+    requires { ⌜ (1 < base) × (base ≤ 16) × (at + k ≤ length (now buffer)) ⌝ }
+    ensures { λ _. ⌜ now (buffer .exit) ≡ sets (now (buffer .entry)) at (digitsTo base k k n) ⌝ }
 {
-    if most == 0 {
-        return 0;
+    let mut left = n;
+    let mut i = k;
+    while 0 < i {
+        i -= 1;
+        buffer[at + i] = glyph(left % base);
+        left = left / base;
     }
-    if (n < base) & (least <= 1) {
-        out[0] = glyph(n);
-        return 1;
-    }
-    let k = put_digits(out, base, one_less(least), most - 1, n / base);
-    out[k] = glyph(n % base);
-    k + 1
 }
 
 // Stores the text in the buffer from a place on.
@@ -57,30 +62,52 @@ fn copy(buffer: &mut [u8], at: usize, text: &[u8])
     }
 }
 
+// Whether a buffer of this length holds so many bytes from a place on.
+fn has_room(space: usize, at: usize, count: usize) -> bool
+    ensures { λ r. ⌜ r ≡ leb (at + count) space ⌝ }
+{
+    if space < count {
+        return false;
+    }
+    at <= space - count
+}
+
 // Puts the text into the buffer from a place on, and answers the place after it. Where the buffer does not hold it, nothing is stored.
 pub fn put_text(buffer: &mut [u8], at: usize, text: &[u8]) -> usize
     ensures { λ r. ⌜ r ≡ placeAfter (now (buffer .entry)) at (now (text .entry)) ⌝ }
     ensures { λ _. ⌜ now (buffer .exit) ≡ putAt (now (buffer .entry)) at (now (text .entry)) ⌝ }
 {
-    if buffer.len() < text.len() {
-        return at;
+    if has_room(buffer.len(), at, text.len()) {
+        copy(buffer, at, text);
+        return at + text.len();
     }
-    if buffer.len() - text.len() < at {
-        return at;
+    at
+}
+
+// Puts one byte, as put_text puts the text of that byte.
+pub fn put_byte(buffer: &mut [u8], at: usize, b: u8) -> usize
+    ensures { λ r. ⌜ r ≡ placeAfter (now (buffer .entry)) at (b ∷ []) ⌝ }
+    ensures { λ _. ⌜ now (buffer .exit) ≡ putAt (now (buffer .entry)) at (b ∷ []) ⌝ }
+{
+    if at < buffer.len() {
+        buffer[at] = b;
+        return at + 1;
     }
-    copy(buffer, at, text);
-    at + text.len()
+    at
 }
 
 // Puts the digits of n, as put_text does.
 fn put_number(buffer: &mut [u8], at: usize, base: u64, least: usize, most: usize, n: u64) -> usize
-    requires { ⌜ (1 < base) × (base ≤ 16) × (most ≤ 20) ⌝ }
+    requires { ⌜ (1 < base) × (base ≤ 16) × (0 < most) ⌝ }
     ensures { λ r. ⌜ r ≡ placeAfter (now (buffer .entry)) at (digitsTo base least most n) ⌝ }
     ensures { λ _. ⌜ now (buffer .exit) ≡ putAt (now (buffer .entry)) at (digitsTo base least most n) ⌝ }
 {
-    let mut text: [u8; 20] = [0; 20];
-    let k = put_digits(&mut text, base, least, most, n);
-    put_text(buffer, at, &text[..k])
+    let k = count_digits(base, least, most, n);
+    if has_room(buffer.len(), at, k) {
+        store_digits(buffer, at, base, k, n);
+        return at + k;
+    }
+    at
 }
 
 // Puts n in decimal, as put_text does.
@@ -88,6 +115,9 @@ pub fn put_decimal(buffer: &mut [u8], at: usize, n: u64) -> usize
     ensures { λ r. ⌜ r ≡ placeAfter (now (buffer .entry)) at (decimal n) ⌝ }
     ensures { λ _. ⌜ now (buffer .exit) ≡ putAt (now (buffer .entry)) at (decimal n) ⌝ }
 {
+    if n < 10 {
+        return put_byte(buffer, at, glyph(n));
+    }
     put_number(buffer, at, 10, 1, 20, n)
 }
 

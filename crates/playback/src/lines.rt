@@ -2,7 +2,7 @@
 
 ghost use mathlib.Core.Path.{_≡_};
 ghost use Prim.Native.Nat.{_+_, _≤_};
-ghost use mathlib.Core.List.{_++_};
+ghost use mathlib.Core.List.{[], _∷_, _++_};
 ghost use lib.ListN.{length};
 ghost use lib.IntN.{pos, natAbs};
 ghost use lib.Signed.{ltZ};
@@ -12,6 +12,7 @@ ghost use Rattle.digits.specs.Put.{putAt, placeAfter};
 ghost use Rattle.digits.specs.Ascii.{ascii};
 ghost use Rattle.playback.specs.Text.{minus, signed};
 ghost use Rattle.playback.specs.Print.{eventLine, lastLine};
+use digits::put_byte;
 use digits::put_decimal;
 use digits::put_text;
 
@@ -37,6 +38,16 @@ pub(crate) fn put_line(out: &mut [u8], at: usize, s: &[u8], m: u64, t: &[u8], n:
     put_text(out, a, b"\n")
 }
 
+// Puts a number and the byte behind it.
+fn put_field(out: &mut [u8], at: usize, n: u64, end: u8) -> usize
+    requires { ⌜ at + length (decimal n ++ end ∷ []) ≤ length (now out) ⌝ }
+    ensures { λ r. ⌜ r ≡ at + length (decimal n ++ end ∷ []) ⌝ }
+    ensures { λ _. ⌜ now (out .exit) ≡ sets (now (out .entry)) at (decimal n ++ end ∷ []) ⌝ }
+{
+    let a = put_decimal(out, at, n);
+    put_byte(out, a, end)
+}
+
 // Puts the line of an event.
 pub(crate) fn put_event(
     out: &mut [u8],
@@ -50,8 +61,10 @@ pub(crate) fn put_event(
     ensures { λ r. ⌜ r ≡ at + length (eventLine index kind answer refusal) ⌝ }
     ensures { λ _. ⌜ now (out .exit) ≡ sets (now (out .entry)) at (eventLine index kind answer refusal) ⌝ }
 {
-    let a = put_two(out, at, b"", index, b" ", kind);
-    put_line(out, a, b" ", answer, b" ", refusal)
+    let a = put_field(out, at, index, b' ');
+    let b = put_field(out, a, kind, b' ');
+    let c = put_field(out, b, answer, b' ');
+    put_field(out, c, refusal, b'\n')
 }
 
 // Puts a minus, or nothing, as put_text does.

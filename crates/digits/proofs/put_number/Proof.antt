@@ -1,37 +1,39 @@
 use borrow.Author.Needs.{needs}
-use Rattle.digits.proofs.Digits.{digits-stored}
+use lib.ListN.{length}
+use Rattle.digits.proofs.Digits.{number-fitting, number-not-fitting}
+use Rattle.digits.proofs.Stores.{room, no-room}
 use Rattle.digits.proofs.put_number.Statement.{statement}
 use Rattle.digits.proofs.put_number.Tie as tie
 
-slice-aggregate-put-digits : tie.Need-slice-aggregate-put-digits
-slice-aggregate-put-digits c = search needs
+count-digits-requires : tie.Need-count-digits-requires
+count-digits-requires c κs = search needs
 
-put-digits-requires : tie.Need-put-digits-requires
-put-digits-requires c κs = search needs
+has-room-requires : tie.Need-has-room-requires
+has-room-requires c κs = search needs
 
-array-share-prefix-text : tie.Need-array-share-prefix-text
-array-share-prefix-text c = digits-stored (c .before .before .before .before .before .args .base) (c .before .before .before .before .before .args .least) (c .before .before .before .before .before .args .most) (c .before .before .before .before .before .args .n) (c .before .before .put-digits .result) _ (c .before .before .before .before .before .pre .2) (c .before .before .put-digits .ensures .0) (c .before .before .put-digits .ensures .1) .0
+store-digits-requires : tie.Need-store-digits-requires
+store-digits-requires c κs = let h = room (c .before .before .before .before .before .args .at) (c .before .before .before .count-digits .result) (length (denote.Ref.now (c .before .before .before .before .before .args .buffer))) (c .before .before .has-room .ensures) (c .before .if1 .taken) in search needs
 
-slice-aggregate-put-text : tie.Need-slice-aggregate-put-text
-slice-aggregate-put-text c = rw (digits-stored (c .before .before .before .before .before .before .args .base) (c .before .before .before .before .before .before .args .least) (c .before .before .before .before .before .before .args .most) (c .before .before .before .before .before .before .args .n) (c .before .before .before .put-digits .result) _ (c .before .before .before .before .before .before .pre .2) (c .before .before .before .put-digits .ensures .0) (c .before .before .before .put-digits .ensures .1) .1) (c .before .before .before .put-digits .ensures .0)
-
-put-text-requires : tie.Need-put-text-requires
-put-text-requires c κs = search needs
+add-result : tie.Need-add-result
+add-result c = let h = room (c .before .before .before .before .before .before .before .before .args .at) (c .before .before .before .before .before .before .count-digits .result) (length (denote.Ref.now (c .before .before .before .before .before .before .before .before .args .buffer))) (c .before .before .before .before .before .has-room .ensures) (c .before .before .before .before .if1 .taken) in search needs
 
 same-length : tie.Need-same-length
 same-length c = search needs
 
 returns : tie.Need-returns
-returns c = let there = digits-stored (c .before .before .before .before .before .before .before .before .before .args .base) (c .before .before .before .before .before .before .before .before .before .args .least) (c .before .before .before .before .before .before .before .before .before .args .most) (c .before .before .before .before .before .before .before .before .before .args .n) (c .before .before .before .before .before .before .put-digits .result) _ (c .before .before .before .before .before .before .before .before .before .pre .2) (c .before .before .before .before .before .before .put-digits .ensures .0) (c .before .before .before .before .before .before .put-digits .ensures .1) .1 in rw (← there) (c .before .before .put-text .ensures)
+returns c = number-fitting (c .before .before .before .before .before .before .before .before .args .base) (c .before .before .before .before .before .before .before .before .args .least) (c .before .before .before .before .before .before .before .before .args .most) (c .before .before .before .before .before .before .before .before .args .n) (c .before .before .before .before .before .before .before .before .args .at) (c .before .before .before .before .before .before .count-digits .result) (denote.Ref.now (c .before .before .before .before .before .before .before .before .args .buffer)) (c .before .before .before .before .before .before .count-digits .ensures) (room (c .before .before .before .before .before .before .before .before .args .at) (c .before .before .before .before .before .before .count-digits .result) (length (denote.Ref.now (c .before .before .before .before .before .before .before .before .args .buffer))) (c .before .before .before .before .before .has-room .ensures) (c .before .before .before .before .if1 .taken)) (c .before .before .store-digits .ensures)
+
+returns-2 : tie.Need-returns-2
+returns-2 c = number-not-fitting (c .before .before .before .before .args .base) (c .before .before .before .before .args .least) (c .before .before .before .before .args .most) (c .before .before .before .before .args .n) (c .before .before .before .before .args .at) (c .before .before .count-digits .result) (denote.Ref.now (c .before .before .before .before .args .buffer)) (c .before .before .count-digits .ensures) (no-room (c .before .before .before .before .args .at) (c .before .before .count-digits .result) (length (denote.Ref.now (c .before .before .before .before .args .buffer))) (c .before .has-room .ensures) (c .if1 .left))
 
 pub put-number-spec : {M : Type 1} → statement M
 put-number-spec =
     tie.close
     (tie.spec
-    slice-aggregate-put-digits
-    put-digits-requires
-    array-share-prefix-text
-    slice-aggregate-put-text
-    put-text-requires
+    count-digits-requires
+    has-room-requires
+    store-digits-requires
+    add-result
     same-length
-    returns)
+    returns
+    returns-2)
