@@ -20,8 +20,8 @@ use Rattle.pic_registers.specs.Calls as registers
 use Rattle.pic_csrs.specs.Addresses.{csrAt}
 use Rattle.pic_csrs.specs.Values.{csrValue, csrWritten}
 use Rattle.pic_csrs.specs.Calls as csrs
-use Rattle.counters.specs.Timers as timers
-use Rattle.counters.specs.Errors as errors
+use Rattle.counters_timers.specs.Timers as timers
+use Rattle.counters_errors.specs.Errors as errors
 use Rattle.counters.specs.Whole as whole
 use Rattle.counters.specs.Csrs as counters
 use Rattle.handlers_stack.specs.Stacks.{handlerSound, belowOf, handlersSound, levelOf}
@@ -43,7 +43,7 @@ use Rattle.bench_points.specs.Points.{Points, Plays, Holds, after, handl
 
 -- To unfold this is to unfold every rule.
 rules : Unit {0}
-unfolding printWithin eventLines ascii digitsTo readVerdict writeVerdict writeShapeOf walkFrom wordsOf bytesOfWords endOf eachOf stepOf soundStepOf eventOf sampleEvent loadEvent storeEvent csrReadEvent controllerWrite csrWriteEvent takeEvent openEvent chainEvent returnEvent setMaskEvent clockEvent clockOf errorEvent errorOf lookEvent lookOf commitEvent commitOf marginAnswer soundOf held.soundOf service.takeOf service.openOf service.chainOf service.returnOf service.setMaskOf service.lookOf service.commitOf handlersSound handlerSound belowOf levelOf powerOnOf shapeOf calls.powerOnOf calls.sourceCount calls.priorityOrder calls.currentRank calls.setCurrent calls.meihapOf calls.captureOf calls.lookOf registers.sampleOf registers.loadOf registers.storeOf csrs.csrReadOf csrs.csrWriteOf sound.soundOf sound.sourcesSound sourceSound isPending isEligible entryOf betterOf winnerTo passing halvesTo higherOf differenceOf joinOf wordTo placesTo sourceRegister pageRegister offsetRefusal readOf writtenOf csrAt csrValue csrWritten mirror closedForm timers.timerAt timers.withTimer timers.timerSound timers.nextCount timers.clockOf errors.heldOf errors.errorSound errors.counted errors.selectedBit errors.errorAt errors.withError errors.errorsSound errors.errorOf whole.resetCounters whole.soundOf counters.csrOf counters.csrAt counters.csrValue counters.csrWritten
+unfolding printWithin eventLines ascii digitsTo readVerdict writeVerdict writeShapeOf walkFrom wordsOf bytesOfWords endOf eachOf stepOf soundStepOf eventOf sampleEvent loadEvent storeEvent csrReadEvent controllerWrite csrWriteEvent takeEvent openEvent chainEvent returnEvent setMaskEvent clockEvent clockOf errorEvent errorOf lookEvent lookOf commitEvent commitOf marginAnswer soundOf held.soundOf service.takeOf service.openOf service.chainOf service.returnOf service.setMaskOf service.lookOf service.commitOf handlersSound handlerSound belowOf levelOf powerOnOf shapeOf calls.powerOnOf calls.sourceCount calls.priorityOrder calls.currentRank calls.setCurrent calls.meihapOf calls.captureOf calls.lookOf registers.sampleOf registers.loadOf registers.storeOf csrs.csrReadOf csrs.csrWriteOf sound.soundOf sound.sourcesSound sourceSound isPending isEligible entryOf betterOf winnerTo passing halvesTo higherOf differenceOf joinOf wordTo placesTo sourceRegister pageRegister offsetRefusal readOf writtenOf csrAt csrValue csrWritten mirror closedForm timers.timerAt timers.withTimer timers.resetTimers timers.timerSound timers.timersSound timers.nextCount timers.clockOf errors.heldOf errors.errorSound errors.counted errors.selectedBit errors.errorAt errors.withError errors.resetErrors errors.errorsSound errors.errorOf whole.soundOf counters.csrOf counters.csrAt counters.csrValue counters.csrWritten
 rules = tt
 
 -- The whole print and the long list apart from the table, since what one declaration may compute is limited.

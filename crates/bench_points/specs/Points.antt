@@ -21,8 +21,9 @@ use Rattle.pic.specs.Sources.{fieldAt, rankAt, eligibleAt, winnerOf}
 use Rattle.pic.specs.Sound.{initial}
 use Rattle.pic_tree.specs.Tree.{rootOf, treeWinner}
 use Rattle.pic.specs.Calls.{sourceCount, priorityOrder, currentRank}
-use Rattle.counters.specs.Timers.{withControl, withTimer, resetTimer}
-use Rattle.counters.specs.Errors.{counterOf, heldOf}
+use Rattle.counters_timers.specs.Timers.{withControl, resetTimer}
+use Rattle.counters_errors.specs.Errors.{counterOf, heldOf}
+use Rattle.counters.specs.Csrs.{putTimer}
 use Rattle.handlers_stack.specs.declared.Handler.{Handler}
 use Rattle.handlers.specs.declared.Machine.{Machine}
 use Rattle.handlers.specs.Fields.{withController, withCounters}
@@ -384,7 +385,7 @@ nested-down = clock ∷ mask 0 ∷ clock ∷ return answers 1 ∷ clock answers 
 
 -- A machine as power-on leaves it, but for the control of timer 1.
 abbrev pub controlled : ℕ → Machine
-controlled v = withCounters (start 4) (withTimer (start 4 .counters) 1 (withControl resetTimer v))
+controlled v = withCounters (start 4) (putTimer (start 4 .counters) 1 (withControl resetTimer v))
 
 -- The sizes of a record, n and N, and no event behind them.
 abbrev pub sizes : ℕ → ℕ → List ℕ

@@ -23,8 +23,7 @@ use Rattle.pic_laws.proofs.Kept.{current-is}
 use Rattle.pic_laws.proofs.Captures.{Found, look-found, margin-over}
 use Rattle.pic.proofs.Winning.{eligible-parts, eligible-is}
 use Rattle.counters.specs.declared.Counters.{Counters}
-use Rattle.counters.specs.Timers as timers
-use Rattle.counters.specs.Errors as errors
+use Rattle.counters.specs.Whole as whole
 use Rattle.counters.specs.Csrs as counters
 use Rattle.nesting.specs.Claim.{isOther, Does, Pushed, Swapped, Laws}
 use Rattle.nesting.specs.Held.{held}
@@ -162,8 +161,8 @@ module _ (m : Machine) (r : Ready m) where
               restored = ap (λ (z : Rank). z .0) (current-is (m .controller) (uppermost m .saved) (saved-small m sound-here (ltb-true 0 (m .service .depth) f)));
             };
         masks = λ f g. other-does 9 (accepted (withMask m v) 0) refl refl;
-        clocks = counters-do 10 (timers.clockOf (m .counters) .counters) (timers.clockOf (m .counters) .answer) refl;
-        errors = λ f. counters-do 11 (errors.errorOf (m .counters) a .counters) (errors.errorOf (m .counters) a .answer) refl;
+        clocks = counters-do 10 (whole.clockOf (m .counters) .counters) (whole.clockOf (m .counters) .answer) refl;
+        errors = λ f. counters-do 11 (whole.errorOf (m .counters) a .counters) (whole.errorOf (m .counters) a .answer) refl;
         looks = other-does 12 (accepted m (nextSource m)) refl refl;
         commits = λ f e. chained-swaps (ltb-true 0 (m .service .depth) f) e .1;
       })

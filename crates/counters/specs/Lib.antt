@@ -1,7 +1,4 @@
--- The rules of the counters beside the controller: the internal timers and the error counters.
-pub mod Timers
-pub mod Errors
+-- The rules of the counters beside the controller: the internal timers and the error counters together, and their CSRs.
 pub mod Whole
 pub mod Csrs
 pub mod Each
-pub mod EachError

@@ -1,10 +1,11 @@
 // The CSRs of the counters: which has an address, what it reads, what a write changes.
 
 ghost use mathlib.Core.Path.{_≡_};
-ghost use Rattle.counters.specs.Csrs.{isCsr, csrOf, csrAt, csrValue, csrWritten};
+ghost use Rattle.counters.specs.Csrs.{isCsr, csrOf, csrAt, timerOf, putTimer, csrValue, csrWritten};
 use crate::Counters;
 use crate::Csr;
-use crate::ErrorCounter;
+use counters_errors::ErrorCounter;
+use counters_timers::Timer;
 
 // The CSR of timer i that is k places on from its first.
 fn csr_of(i: u8, k: u32) -> Csr
@@ -45,6 +46,21 @@ pub fn is_csr(csr: Csr) -> bool
 }
 
 impl Counters {
+    // Timer i.
+    fn timer(self, i: u8) -> Timer
+        ensures { λ r. ⌜ r ≡ timerOf self i ⌝ }
+    {
+        self.timers.timer(i)
+    }
+
+    // The counters with t for timer i.
+    fn with_timer(mut self, i: u8, t: Timer) -> Counters
+        ensures { λ r. ⌜ r ≡ putTimer self i t ⌝ }
+    {
+        self.timers = self.timers.with_timer(i, t);
+        self
+    }
+
     // What a CSR reads.
     pub fn csr_value(self, csr: Csr) -> u32
         ensures { λ r. ⌜ r ≡ csrValue self csr ⌝ }

@@ -1,31 +1,20 @@
-// The counters together: reset values, and whether they are sound.
+// The counters together: reset values, whether they are sound, a clock and an error.
 
 ghost use mathlib.Core.Path.{_≡_};
-ghost use Rattle.counters.specs.Whole.{resetCounters, soundOf};
+ghost use Rattle.counters.specs.Whole.{resetCounters, soundOf, clockOf, errorOf};
+use crate::Counted;
 use crate::Counters;
-use crate::ErrorCounter;
-use crate::ErrorCounters;
-use crate::Timer;
+use counters_errors::ErrorCounters;
+use counters_timers::Timers;
 
 impl Counters {
     // The counters as power-on leaves them.
     pub fn reset() -> Counters
         ensures { λ r. ⌜ r ≡ resetCounters ⌝ }
     {
-        let t = Timer {
-            count: 0,
-            bound: 0xFFFFFFFF,
-            control: 1,
-        };
-        let e = ErrorCounters {
-            micect: ErrorCounter(0),
-            miccmect: ErrorCounter(0),
-            mdccmect: ErrorCounter(0),
-        };
         Counters {
-            timer0: t,
-            timer1: t,
-            errors: e,
+            timers: Timers::reset(),
+            errors: ErrorCounters::reset(),
         }
     }
 
@@ -33,12 +22,36 @@ impl Counters {
     pub fn is_sound(self) -> bool
         ensures { λ r. ⌜ r ≡ soundOf self ⌝ }
     {
-        let t = self.timer0;
-        let u = self.timer1;
-        let e = self.errors;
-        let a = t.is_sound();
-        let b = u.is_sound();
-        let c = e.is_sound();
-        a & b & c
+        let a = self.timers.is_sound();
+        let b = self.errors.is_sound();
+        a & b
+    }
+
+    // One clock.
+    pub fn clock(mut self) -> Counted
+        ensures { λ r. ⌜ r ≡ clockOf self ⌝ }
+    {
+        let out = self.timers.clock();
+        let next = out.timers;
+        self.timers = next;
+        Counted {
+            counters: self,
+            answer: out.answer,
+            refusal: 0,
+        }
+    }
+
+    // One error in the counter that an address names.
+    pub fn count_error(mut self, address: u32) -> Counted
+        ensures { λ r. ⌜ r ≡ errorOf self address ⌝ }
+    {
+        let out = self.errors.count_error(address);
+        let next = out.counters;
+        self.errors = next;
+        Counted {
+            counters: self,
+            answer: out.answer,
+            refusal: out.refusal,
+        }
     }
 }

@@ -4,13 +4,14 @@ use mathlib.Core.Path.{_≡_}
 use mathlib.Core.Bool.{true, cond}
 use lib.Dec.{eqb}
 use Rattle.event.specs.Event.{kindOf, addressOf}
-use Rattle.counters.specs.declared.ErrorCounter.{ErrorCounter}
-use Rattle.counters.specs.Errors.{selectedBit, errorAt, withError, withErrors, afterError}
-use Rattle.counters.specs.EachError.{HasParts}
+use Rattle.counters_errors.specs.declared.ErrorCounter.{ErrorCounter}
+use Rattle.counters_errors.specs.Errors.{selectedBit, errorAt, withError, mayCount, afterError}
+use Rattle.counters_errors.specs.Each.{HasParts}
+use Rattle.counters.specs.Whole.{withErrors}
 use Rattle.handlers.specs.declared.Machine.{Machine}
 use Rattle.handlers.specs.Fields.{withCounters}
 use Rattle.handlers.specs.Machines.{powerOnOf, soundOf}
-use Rattle.handlers.specs.Service.{accepted, refused, mayCount}
+use Rattle.handlers.specs.Service.{accepted, refused}
 use Rattle.handlers.specs.Calls.{errorOf, stepOf}
 
 -- Error counter i of a machine, and the machine with another counter i.
@@ -32,8 +33,8 @@ ErrorQuestions =
 -- "One proof serves the three": an error in counter i of a sound machine is accepted. It is counted there, and nothing else changes; the answer is the bit of its
 -- count that its threshold selects, afterwards. With any other number it is refused with 25.
 pub record ErrorCounted (m : Machine) (i : ℕ) : Type 0 where
-  pub accepts : errorOf m i ≡ accepted (withCounter m i (afterError (m .counters) i)) (selectedBit (afterError (m .counters) i))
-  pub counter : counterIn (errorOf m i .machine) i ≡ afterError (m .counters) i
+  pub accepts : errorOf m i ≡ accepted (withCounter m i (afterError (m .counters .errors) i)) (selectedBit (afterError (m .counters .errors) i))
+  pub counter : counterIn (errorOf m i .machine) i ≡ afterError (m .counters .errors) i
   pub others : (j : ℕ) → j < 3 → (j ≡ i → ⊥) → counterIn (errorOf m i .machine) j ≡ counterIn m j
 
 pub record ErrorsCount (m : Machine) : Type 0 where

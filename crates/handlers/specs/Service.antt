@@ -2,7 +2,7 @@
 -- total: on a machine that is not sound they say what the code does, and question 8 keeps that from every caller.
 use Prim.Native.Nat.{ℕ, _%_}
 use mathlib.Core.Bool.{Bool, cond, not, _&&_, _||_}
-use lib.Dec.{leb, eqb}
+use lib.Dec.{eqb}
 use Rattle.event.specs.Event.{kindOf, addressOf, shapeOf}
 use Rattle.pic.specs.declared.Look.{Look}
 use Rattle.pic.specs.declared.Controller.{Controller}
@@ -10,8 +10,8 @@ use Rattle.pic.specs.declared.Outcome as controller
 use Rattle.pic.specs.Calls.{priorityOrder, currentRank, setCurrent, captureOf, lookOf}
 use Rattle.pic_registers.specs.Calls as registers
 use Rattle.pic_csrs.specs.Calls as csrs
-use Rattle.counters.specs.Timers as timers
-use Rattle.counters.specs.Errors as errors
+use Rattle.counters.specs.declared.Counted.{Counted}
+use Rattle.counters.specs.Whole as whole
 use Rattle.counters.specs.Csrs as counters
 use Rattle.handlers_service.specs.declared.Outcome as handler
 use Rattle.handlers_service.specs.Events as service
@@ -111,17 +111,17 @@ returnEvent m = servedWith m (service.returnOf (m .service)) (setCurrent (m .con
 unfoldable pub setMaskEvent : Machine → ℕ → Outcome
 setMaskEvent m v = servedWith m (service.setMaskOf (m .service) v) (m .controller)
 
+-- What the counters answer to a clock or an error, with the counters that they hand back.
+abbrev pub countedIn : Machine → Counted → Outcome
+countedIn m o = record { machine = withCounters m (o .counters); answer = o .answer; refusal = o .refusal }
+
 -- Clock: it is asked nothing more, and changes the timers alone. Answer: bit 0 for timer 0, bit 1 for timer 1.
 unfoldable pub clockEvent : Machine → Outcome
-clockEvent m = accepted (withCounters m (timers.clockOf (m .counters) .counters)) (timers.clockOf (m .counters) .answer)
+clockEvent m = countedIn m (whole.clockOf (m .counters))
 
--- Error: one error in the counter that the address names. Document 02, No. 5: "25 when the address is above 2". Answer: the bit of the count that the threshold
--- selects, afterwards.
-abbrev pub mayCount : ℕ → Bool
-mayCount a = leb a 2
-
+-- Error: one error in the counter that the address names, which the counters ask 25. Answer: the bit of the count that the threshold selects, afterwards.
 unfoldable pub errorEvent : Machine → ℕ → Outcome
-errorEvent m a = ask m (mayCount a) 25 (accepted (withCounters m (errors.errorOf (m .counters) a .counters)) (errors.errorOf (m .counters) a .answer))
+errorEvent m a = countedIn m (whole.errorOf (m .counters) a)
 
 -- Document 02, No. 7. Look: it "changes nothing, with no capture".
 unfoldable pub lookEvent : Machine → Outcome

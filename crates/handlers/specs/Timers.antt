@@ -3,7 +3,7 @@ use Prim.Native.Nat.{ℕ, _/_, _%_, _^_, _<_}
 use mathlib.Core.Path.{_≡_}
 use mathlib.Core.Bool.{true}
 use Rattle.event.specs.Event.{kindOf}
-use Rattle.counters.specs.Timers.{timerAt, resetTimer, signalBit, afterClock}
+use Rattle.counters_timers.specs.Timers.{timerAt, resetTimer, signalBit, afterClock}
 use Rattle.handlers.specs.declared.Machine.{Machine}
 use Rattle.handlers.specs.Fields.{withCounters}
 use Rattle.handlers.specs.Machines.{powerOnOf, soundOf}
@@ -11,14 +11,14 @@ use Rattle.handlers.specs.Calls.{clockOf, stepOf}
 
 -- "Power-on sets these reset values", also with an N that it refuses.
 abbrev pub PowerOnResets : Type 0
-PowerOnResets = (n i : ℕ) → timerAt (powerOnOf n .machine .counters) i ≡ resetTimer
+PowerOnResets = (n i : ℕ) → i < 2 → timerAt (powerOnOf n .machine .counters .timers) i ≡ resetTimer
 
 -- "One statement covers both timers": a sound machine accepts every clock; after it timer i is what the rule of one timer says, and bit i of the answer is 1 just when
 -- it signals. The answer has no other bits.
 pub record TimerClocked (m : Machine) (i : ℕ) : Type 0 where
   pub accepts : clockOf m .refusal ≡ 0
-  pub timer : timerAt (clockOf m .machine .counters) i ≡ afterClock (timerAt (m .counters) i)
-  pub bit : clockOf m .answer / 2 ^ i % 2 ≡ signalBit (timerAt (m .counters) i)
+  pub timer : timerAt (clockOf m .machine .counters .timers) i ≡ afterClock (timerAt (m .counters .timers) i)
+  pub bit : clockOf m .answer / 2 ^ i % 2 ≡ signalBit (timerAt (m .counters .timers) i)
   pub no-more : clockOf m .answer < 2 ^ 2
 
 abbrev pub TimersClocked : Type 0

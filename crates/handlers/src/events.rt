@@ -2,9 +2,10 @@
 
 ghost use mathlib.Core.Path.{_≡_};
 ghost use Rattle.handlers.specs.Fields.{withController, withCounters};
-ghost use Rattle.handlers.specs.Service.{lifted, sampleEvent, loadEvent, storeEvent, csrReadEvent, controllerWrite, csrWriteEvent, clockEvent, errorEvent, soundStepOf};
+ghost use Rattle.handlers.specs.Service.{lifted, sampleEvent, loadEvent, storeEvent, csrReadEvent, controllerWrite, csrWriteEvent, countedIn, clockEvent, errorEvent, soundStepOf};
 use crate::Machine;
 use crate::Outcome;
+use counters::Counted;
 use counters::Counters;
 use counters::csrs::csr_at;
 use counters::csrs::is_csr;
@@ -97,25 +98,29 @@ impl Machine {
         self.lift(pic_csrs::csr_write(c, address, v))
     }
 
+    // The machine with the counters that a clock or an error handed back.
+    fn count(self, counted: Counted) -> Outcome
+        ensures { λ r. ⌜ r ≡ countedIn self counted ⌝ }
+    {
+        Outcome {
+            machine: self.with_counters(counted.counters),
+            answer: counted.answer,
+            refusal: counted.refusal,
+        }
+    }
+
     pub(crate) fn clock_event(self) -> Outcome
         ensures { λ r. ⌜ r ≡ clockEvent self ⌝ }
     {
         let t = self.counters;
-        let out = t.clock();
-        let next = out.counters;
-        self.with_counters(next).accept(out.answer)
+        self.count(t.clock())
     }
 
     pub(crate) fn error_event(self, address: u32) -> Outcome
         ensures { λ r. ⌜ r ≡ errorEvent self address ⌝ }
     {
-        if 2 < address {
-            return self.refuse(25);
-        }
-        let old = self.counters;
-        let out = old.count_error(address as u8);
-        let new = out.counters;
-        self.with_counters(new).accept(out.answer)
+        let t = self.counters;
+        self.count(t.count_error(address))
     }
 
     // One event, a head and a value, on a machine that is known to be sound: 6 and 7, then the event by its kind.

@@ -2,23 +2,25 @@
 use Prim.Native.Nat.{ℕ, _-_}
 use mathlib.Core.Path.{_≡_, refl}
 use mathlib.Core.Bool.{Bool, true, false, cond, not, _||_}
+use mathlib.Core.Logic.{⊎-elim}
 use native.Mathlib.Omega.{arith}
 use lib.Dec.{leb, eqb}
 use lib.IntN.{pos}
 use lib.Signed.{ltZ}
-use borrow.Author.Tests.{eqb-true, eqb-false, not-true}
-use Rattle.pic_source.proofs.Bools.{and-parts}
+use borrow.Author.Tests.{le-leb, lt-leb, eqb-true, eqb-false, not-true}
+use Rattle.pic_source.proofs.Bools.{and-parts, le-cases}
 use Rattle.event.specs.Event.{kindOf, addressOf, shapeOf}
 use Rattle.pic_registers.specs.Calls as registers
 use Rattle.pic_csrs.specs.Calls as csrs
-use Rattle.counters.specs.Timers as timers
-use Rattle.counters.specs.Errors as errors
+use Rattle.counters_errors.specs.Errors.{mayCount}
+use Rattle.counters_errors.proofs.Counts.{counted-each, refused-above}
+use Rattle.counters.specs.Whole as whole
 use Rattle.counters.specs.Csrs as counters
 use Rattle.handlers.specs.declared.Machine.{Machine}
 use Rattle.handlers.specs.declared.Outcome.{Outcome}
 use Rattle.handlers.specs.Fields.{withCounters}
 use Rattle.handlers.specs.Machines.{uppermost, soundOf}
-use Rattle.handlers.specs.Service.{accepted, refused, ask, lifted, ofCounters, mayStore, mayWrite, mayCount, controllerWrite, lookAt, captured, sampleEvent, loadEvent, storeEvent, csrReadEvent, csrWriteEvent, takeEvent, openEvent, chainEvent, returnEvent, setMaskEvent, clockEvent, errorEvent, lookEvent, commitEvent, eventOf, soundStepOf}
+use Rattle.handlers.specs.Service.{accepted, refused, ask, lifted, ofCounters, mayStore, mayWrite, controllerWrite, lookAt, captured, sampleEvent, loadEvent, storeEvent, csrReadEvent, csrWriteEvent, takeEvent, openEvent, chainEvent, returnEvent, setMaskEvent, clockEvent, errorEvent, lookEvent, commitEvent, eventOf, soundStepOf}
 use Rattle.handlers.specs.Calls.{stepOf}
 use Rattle.handlers_laws.proofs.Service.{take-event, open-event, chain-event, return-event, set-mask-event, look-event, commit-event, withMask, isOpen, hasHandler, inHandler, taken, opened, serves, served, returned, nextSource, mayCommit}
 
@@ -39,8 +41,8 @@ pub record Cases (m : Machine) (a v : ℕ) (P : ℕ → Outcome → Type 0) : Ty
   pub passes : P 7 (accepted (captured m) 0)
   pub returns : hasHandler m ≡ true → P 8 (accepted (returned m) (m .service .depth - 1))
   pub masks : leb v 1 ≡ true → (eqb v 0 || isOpen m) ≡ true → P 9 (accepted (withMask m v) 0)
-  pub clocks : P 10 (accepted (withCounters m (timers.clockOf (m .counters) .counters)) (timers.clockOf (m .counters) .answer))
-  pub errors : mayCount a ≡ true → P 11 (accepted (withCounters m (errors.errorOf (m .counters) a .counters)) (errors.errorOf (m .counters) a .answer))
+  pub clocks : P 10 (accepted (withCounters m (whole.clockOf (m .counters) .counters)) (whole.clockOf (m .counters) .answer))
+  pub errors : mayCount a ≡ true → P 11 (accepted (withCounters m (whole.errorOf (m .counters) a .counters)) (whole.errorOf (m .counters) a .answer))
   pub looks : P 12 (accepted m (nextSource m))
   pub commits : hasHandler m ≡ true → serves m ≡ true → P 13 (served m)
 
@@ -51,6 +53,14 @@ commit-served m s e = go (serves m) refl (and-parts (not (eqb s 0)) (eqb s (next
     go : (t : Bool) → serves m ≡ t → (not (eqb s 0) ≡ true) × (eqb s (cond t (lookAt m .winner .source) 0) ≡ true) → (serves m ≡ true) × (s ≡ lookAt m .winner .source)
     go true f p = (f, eqb-true s _ (p .1))
     go false f p = absurd (eqb-false s 0 (not-true _ (p .0)) (eqb-true s 0 (p .1)))
+
+-- An error is refused with 25, or is counted.
+pub error-event : (m : Machine) (a : ℕ)
+    → errorEvent m a ≡ ask m (mayCount a) 25 (accepted (withCounters m (whole.errorOf (m .counters) a .counters)) (whole.errorOf (m .counters) a .answer))
+unfolding errorEvent
+error-event m a =
+    ⊎-elim (λ l. rw (le-leb a 2 l, counted-each (m .counters .errors) a (omega (arith, l)) .accepts)) (λ l. rw (lt-leb a 2 l, refused-above (m .counters .errors) a l))
+    (le-cases a 2)
 
 module _ (m : Machine) (a v : ℕ) (P : ℕ → Outcome → Type 0) (h : Cases m a v P) where
   -- A question of an event of kind k.
@@ -102,8 +112,7 @@ module _ (m : Machine) (a v : ℕ) (P : ℕ → Outcome → Type 0) (h : Cases m
   mask-case = rw (set-mask-event m v) (ask-case 9 (leb v 1) 20 _ (λ e. omega arith) (λ f. ask-case 9 (eqb v 0 || isOpen m) 21 _ (λ e. omega arith) (λ g. h .masks f g)))
 
   error-case : P 11 (errorEvent m a)
-  unfolding errorEvent
-  error-case = ask-case 11 (mayCount a) 25 _ (λ e. omega arith) (λ f. h .errors f)
+  error-case = rw (error-event m a) (ask-case 11 (mayCount a) 25 _ (λ e. omega arith) (λ f. h .errors f))
 
   look-case : P 12 (lookEvent m)
   look-case = rw (look-event m) (handler-case 12 _ (λ f. h .looks))

@@ -182,10 +182,10 @@ module _ (m : Machine) (e : soundOf m ≡ true) (r : Csr) (h : isCsr r ≡ true)
 pub counters-written : CountersWritten
 counters-written m e r v h b =
     let t = csrWritten (m .counters) r v in
-    let s = counters-sound m t e (written-sound (m .counters) r v h b (facts m e .counters)) in
+    let s = counters-sound m t e (written-sound (m .counters) r v b (facts m e .counters)) in
     let w = written-each (m .counters) r v h in
     record {
       accepts = ap (λ (o : Outcome). o .refusal) (counter-write m e r h v);
       itself = rw (counter-write m e r h v, counter-read (withCounters m t) s r h) (w .itself);
-      others = λ q i d. rw (counter-write m e r h v, counter-read (withCounters m t) s q i, counter-read m e q i) (w .others q i d);
+      others = λ q i d. rw (counter-write m e r h v, counter-read (withCounters m t) s q i, counter-read m e q i) (w .others q d);
     }

@@ -325,7 +325,7 @@ module _ (m : Machine) (r : Ready m) where
         reads = same-ready _ (csr-read-same (m .controller) a);
         counter-reads = λ f. r;
         writes = λ f. write-ready a v b f;
-        counter-writes = λ f. with-counters m _ r (written-sound (m .counters) (counters.csrAt a) v f b (facts m (r .isSound) .counters));
+        counter-writes = λ f. with-counters m _ r (written-sound (m .counters) (counters.csrAt a) v b (facts m (r .isSound) .counters));
         takes = λ f g. taken-ready m r (λ z. let o = eqb-true (m .service .mask) 1 f in omega arith) g;
         opens = λ f. opened-ready m r (ltb-true 0 (m .service .depth) f);
         chains = λ f e. chained-ready m r (ltb-true 0 (m .service .depth) f) e;
@@ -333,7 +333,7 @@ module _ (m : Machine) (r : Ready m) where
         returns = λ f. returned-ready m r (ltb-true 0 (m .service .depth) f);
         masks = λ f g. masked-ready m r v f g;
         clocks = with-counters m _ r (clock-sound (m .counters) (facts m (r .isSound) .counters));
-        errors = λ f. let l = leb-true a 2 f in with-counters m _ r (error-sound (m .counters) a (omega (arith, l)) (facts m (r .isSound) .counters));
+        errors = λ f. with-counters m _ r (error-sound (m .counters) a (facts m (r .isSound) .counters));
         looks = r;
         commits = λ f e. chained-ready m r (ltb-true 0 (m .service .depth) f) e;
       })

@@ -9,12 +9,9 @@ is-sound-requires c κs = search needs
 is-sound-requires-2 : tie.Need-is-sound-requires-2
 is-sound-requires-2 c κs = search needs
 
-is-sound-requires-3 : tie.Need-is-sound-requires-3
-is-sound-requires-3 c κs = search needs
-
 returns : tie.Need-returns
 unfolding soundOf
-returns c = rw (c .is-sound3 .ensures, c .before .is-sound2 .ensures, c .before .before .is-sound .ensures)
+returns c = rw (c .is-sound2 .ensures, c .before .is-sound .ensures)
 
 pub is-sound-spec : {M : Type 1} → statement M
-is-sound-spec = tie.close (tie.spec is-sound-requires is-sound-requires-2 is-sound-requires-3 returns)
+is-sound-spec = tie.close (tie.spec is-sound-requires is-sound-requires-2 returns)

@@ -6,16 +6,12 @@ use Rattle.handlers.proofs.Machine.clock_event.Tie as tie
 clock-requires : tie.Need-clock-requires
 clock-requires c κs = search needs
 
-with-counters-requires : tie.Need-with-counters-requires
-with-counters-requires c κs = search needs
-
-accept-requires : tie.Need-accept-requires
-accept-requires c κs = search needs
+count-requires : tie.Need-count-requires
+count-requires c κs = search needs
 
 returns : tie.Need-returns
 unfolding clockEvent
-returns c = rw (c .accept .ensures, c .before .with-counters .ensures, c .before .before .before .clock .ensures)
+returns c = rw (c .count .ensures, c .before .clock .ensures)
 
 pub clock-event-spec : {M : Type 1} → statement M
-clock-event-spec =
-    tie.close (tie.spec clock-requires with-counters-requires accept-requires returns)
+clock-event-spec = tie.close (tie.spec clock-requires count-requires returns)

@@ -1,0 +1,4 @@
+-- Laws of the error counters.
+pub mod Testing
+pub mod Counts
+pub mod Soundness

@@ -1,0 +1,3 @@
+-- The rules of the error counters.
+pub mod Errors
+pub mod Each

@@ -1,0 +1,3 @@
+-- The rules of the internal timers.
+pub mod Timers
+pub mod Each
