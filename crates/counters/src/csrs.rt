@@ -1,7 +1,7 @@
 // The CSRs of the counters: which has an address, what it reads, what a write changes.
 
 ghost use mathlib.Core.Path.{_≡_};
-ghost use Rattle.counters.specs.Csrs.{isCsr, csrOf, csrAt, timerOf, putTimer, csrValue, csrWritten};
+ghost use Rattle.counters.specs.Csrs.{isCsr, csrOf, csrAt, putTimer, csrValue, csrWritten};
 use crate::Counters;
 use crate::Csr;
 use counters_errors::ErrorCounter;
@@ -46,13 +46,6 @@ pub fn is_csr(csr: Csr) -> bool
 }
 
 impl Counters {
-    // Timer i.
-    fn timer(self, i: u8) -> Timer
-        ensures { λ r. ⌜ r ≡ timerOf self i ⌝ }
-    {
-        self.timers.timer(i)
-    }
-
     // The counters with t for timer i.
     fn with_timer(mut self, i: u8, t: Timer) -> Counters
         ensures { λ r. ⌜ r ≡ putTimer self i t ⌝ }
@@ -66,9 +59,9 @@ impl Counters {
         ensures { λ r. ⌜ r ≡ csrValue self csr ⌝ }
     {
         match csr {
-            Csr::Mitcnt(i) => self.timer(i).count,
-            Csr::Mitb(i) => self.timer(i).bound,
-            Csr::Mitctl(i) => self.timer(i).control,
+            Csr::Mitcnt(i) => self.timers.timer(i).count,
+            Csr::Mitb(i) => self.timers.timer(i).bound,
+            Csr::Mitctl(i) => self.timers.timer(i).control,
             Csr::Ect(i) => self.errors.counter(i).0,
             Csr::NoCsr => 0,
         }
@@ -80,17 +73,17 @@ impl Counters {
     {
         match csr {
             Csr::Mitcnt(i) => {
-                let mut t = self.timer(i);
+                let mut t = self.timers.timer(i);
                 t.count = v;
                 self.with_timer(i, t)
             }
             Csr::Mitb(i) => {
-                let mut t = self.timer(i);
+                let mut t = self.timers.timer(i);
                 t.bound = v;
                 self.with_timer(i, t)
             }
             Csr::Mitctl(i) => {
-                let mut t = self.timer(i);
+                let mut t = self.timers.timer(i);
                 t.control = v % 8;
                 self.with_timer(i, t)
             }

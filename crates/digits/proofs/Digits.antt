@@ -43,6 +43,7 @@ unfolding digitsTo
 more-digits base least zero n h e = absurd (omega arith)
 more-digits base least (suc most) n h e = rw (e, sub-one (suc most))
 
+-- Where one is the most, there is one.
 one-place : (base least n : ℕ) → length (digitsTo base least 1 n) ≡ 1
 unfolding digitsTo
 one-place base least n = by-case (ltb n base && leb least 1)

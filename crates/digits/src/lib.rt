@@ -22,7 +22,7 @@ fn glyph(d: u64) -> u8
     }
 }
 
-// How many digits n has.
+// How many digits n has: those of its quotients, until one digit is enough.
 fn count_digits(base: u64, least: usize, most: usize, n: u64) -> usize
     requires { ⌜ (1 < base) × (0 < most) ⌝ }
     ensures { λ r. ⌜ r ≡ length (digitsTo base least most n) ⌝ }
@@ -110,7 +110,7 @@ fn put_number(buffer: &mut [u8], at: usize, base: u64, least: usize, most: usize
     at
 }
 
-// Puts n in decimal, as put_text does.
+// Puts n in decimal, as put_text does. One digit needs no count.
 pub fn put_decimal(buffer: &mut [u8], at: usize, n: u64) -> usize
     ensures { λ r. ⌜ r ≡ placeAfter (now (buffer .entry)) at (decimal n) ⌝ }
     ensures { λ _. ⌜ now (buffer .exit) ≡ putAt (now (buffer .entry)) at (decimal n) ⌝ }
