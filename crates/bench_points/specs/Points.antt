@@ -29,7 +29,7 @@ use Rattle.handlers.specs.declared.Machine.{Machine}
 use Rattle.handlers.specs.Fields.{withController, withCounters}
 use Rattle.handlers.specs.Machines.{soundOf, powerOnOf}
 use Rattle.handlers.specs.Calls.{storeOf, clockOf, errorOf, lookOf, commitOf, stepOf, marginAnswer}
-use Rattle.handlers.specs.Errors.{withCounter}
+use Rattle.handlers_laws.specs.Errors.{withCounter}
 use Rattle.nesting.specs.Claim.{Class, isTaking, isChaining, isReturn, isOther}
 use Rattle.claims.specs.Play.{endOf, answersOf, refusalsOf}
 use Rattle.claims.specs.Nested.{classBy}
@@ -687,6 +687,27 @@ pub record Points : Type 0 where
   pub k10-looked-held : Holds (after 4 looked-15) 1 (handler 1 15 0 1 ∷ []) 15
   pub k10-committed : Plays 4 (committed-15 ++ (csrRead meihap answers 8 ∷ return answers 0 ∷ []))
   pub k10-committed-held : Holds (after 4 committed-15) 1 (handler 2 15 0 1 ∷ []) 15
+  -- 9: word 8 and the highest number.
+  pub refused-9 : Plays 4 (sample 7 0 ∷ sample 8 0 refused 9 ∷ sample 0xFFFF 0 refused 9 ∷ [])
+  -- 13, of meihap alone; 14, with a handler open, opened or not; 18, where it is opened already. Returned, meicurpl takes a field again.
+  pub refused-13 : Plays 4 (csrWrite meihap 0 refused 13 ∷ csrWrite 0xFC9 0 refused 12 ∷ [])
+  pub refused-14-18 :
+      Plays 4
+      (threshold 4
+      ++ (take answers 8 ∷ csrWrite meicurpl 3 refused 14 ∷ open-handler answers 5 ∷ csrWrite meicurpl 3 refused 14 ∷ open-handler refused 18 ∷ [])
+      ++ (mask 0 ∷ return answers 0 ∷ csrWrite meicurpl 3 ∷ csrRead meicurpl answers 3 ∷ []))
+  -- 20; 21, over a handler that is not opened.
+  pub refused-20-21 :
+      Plays 4
+      (threshold 4
+      ++ (mask 2 refused 20 ∷ mask 0xFFFFFFFF refused 20 ∷ take answers 8 ∷ mask 1 refused 21 ∷ mask 0 ∷ mask 2 refused 20 ∷ open-handler answers 5 ∷ mask 1 ∷ []))
+  -- Polarity 1 is active low. A write of polarity that makes the line active sets the latch, of a level source too.
+  pub polarity-1 :
+      Plays 4
+      (store (meigwctrl 1) 1 ∷ load (meip 0) answers 2 ∷ sample 0 2 ∷ load (meip 0) answers 0 ∷ sample 0 0 ∷ load (meip 0) answers 2 ∷ [])
+  pub polarity-sets-the-latch :
+      Plays 4
+      (store (meigwctrl 1) 1 ∷ store (meigwctrl 1) 2 ∷ load (meip 0) answers 2 ∷ store (meigwclr 1) 0 ∷ load (meip 0) answers 0 ∷ [])
   -- "A signed number from −15 to 15", exact at zero and at both ends: the highest winner over rank 0, the same over threshold 15 and over current rank 15,
   -- and no winner under each of the two.
   pub margin-most : HasMargin (after 4 (highest 0 0)) (pos 15)

@@ -4,9 +4,3 @@ pub mod Machines
 pub mod Service
 pub mod Calls
 pub mod Checked
-pub mod Latches
-pub mod Csrs
-pub mod Timers
-pub mod Switches
-pub mod Errors
-pub mod Commits

@@ -17,7 +17,7 @@ use Rattle.handlers.specs.declared.Outcome.{Outcome}
 use Rattle.handlers.specs.Machines.{uppermost, soundOf}
 use Rattle.handlers.specs.Service.{accepted, ask, lookAt, captured, chainEvent, lookEvent, commitEvent, eventOf, soundStepOf}
 use Rattle.handlers.specs.Calls.{soundFirst, chainOf, lookOf, commitOf, stepOf}
-use Rattle.handlers.specs.Commits.{firstNo, LookQuestions, CommitQuestions, LooksAlone, Tells, LookTells, CommitsChain, CommitAnswers, headOf, commitAfter, ChainIsLookThenCommit}
+use Rattle.handlers_laws.specs.Commits.{firstNo, LookQuestions, CommitQuestions, LooksAlone, Tells, LookTells, CommitsChain, CommitAnswers, headOf, commitAfter, ChainIsLookThenCommit}
 use Rattle.handlers_laws.proofs.Cases.{commit-served, of-kind}
 use Rattle.handlers_laws.proofs.Facts.{facts, served-facts}
 use Rattle.handlers_service.specs.Fields.{withSource}

@@ -1,4 +1,4 @@
--- Question 12 over fifteen addresses, and a CSR of the counters after a write.
+-- Questions 12 to 14 over fifteen addresses, and a CSR of the counters after a write.
 use Prim.Native.Nat.{ℕ, zero, suc, _+_, _-_, _≤_, _<_}
 use mathlib.Core.Path.{_≡_, refl, sym, ap, _∙_}
 use mathlib.Core.Bool.{Bool, true, false, cond, not, _||_}
@@ -6,7 +6,7 @@ use mathlib.Core.List.{List, [], _∷_, _++_}
 use mathlib.Core.Logic.{⊎-elim}
 use native.Mathlib.Omega.{arith}
 use lib.Dec.{eqb}
-use borrow.Author.Tests.{eqb-true}
+use borrow.Author.Tests.{eqb-true, ne-eqb}
 use Rattle.pic_source.proofs.Bools.{never, or-cases}
 use Rattle.pic.specs.declared.Outcome as pic
 use Rattle.pic_csrs.specs.declared.Csr as controller
@@ -14,11 +14,11 @@ use Rattle.pic_csrs.specs.declared.Csr.the-variants as c
 use Rattle.pic_csrs.specs.Addresses as csrs
 use Rattle.pic_csrs.specs.Calls as csr-calls
 use Rattle.pic_csrs.proofs.Addresses as csr-laws
-use Rattle.pic_laws.proofs.Csrs.{read-12, write-12, write-not-12}
+use Rattle.pic_laws.proofs.Csrs.{read-12, write-12, write-refusal}
 use Rattle.counters.specs.declared.Csr.{Csr}
 use Rattle.counters.specs.declared.Csr.the-variants.{Mitcnt, Mitb, Mitctl, Ect}
 use Rattle.counters.specs.Csrs.{csrAddress, isCsr, csrAt, csrValue, csrWritten}
-use Rattle.counters.proofs.Addresses.{address-csr, in-a-row}
+use Rattle.counters.proofs.Addresses.{address-csr, in-a-row, none-above}
 use Rattle.counters.proofs.Writes.{written-each, written-sound}
 use Rattle.handlers.specs.declared.Machine.{Machine}
 use Rattle.handlers.specs.declared.Outcome.{Outcome}
@@ -26,7 +26,7 @@ use Rattle.handlers.specs.Fields.{withCounters}
 use Rattle.handlers.specs.Machines.{soundOf}
 use Rattle.handlers.specs.Service.{accepted, refused, lifted, ofCounters, mayWrite, csrReadEvent, controllerWrite, csrWriteEvent}
 use Rattle.handlers.specs.Calls.{csrReadOf, csrWriteOf}
-use Rattle.handlers.specs.Csrs.{csrsOf01, csrsOfTimers, csrsOfErrors, isOneOf, isOneOfFifteen, Question12, CountersWritten}
+use Rattle.handlers_laws.specs.Csrs.{csrsOf01, csrsOfTimers, csrsOfErrors, isOneOf, isOneOfFifteen, Question12, writeRefusal, WriteQuestions, CountersWritten}
 use Rattle.handlers_laws.proofs.Facts.{facts, counters-sound}
 
 -- What holds of each of a list holds of one of them.
@@ -145,16 +145,45 @@ module _ (m : Machine) (e : soundOf m ≡ true) where
   unfolding csrWriteOf csrWriteEvent controllerWrite
   write-refused a v h k = rw (e, k, may-write a h, write-12 (m .controller) a v h)
 
-  write-known : (a v : ℕ) → (csrs.isCsr (csrs.csrAt a) || ofCounters a) ≡ true → csrWriteOf m a v .refusal ≡ 12 → ⊥
+  -- No CSR of the counters is meihap or meicurpl.
+  apart : (a b : ℕ) → 0x7F3 ≤ b → ofCounters a ≡ true → eqb a b ≡ false
+  apart a b l h = ne-eqb a b (λ z. never (sym (none-above a (omega (arith, z, l))) ∙ h))
+
+  first-no-writing : (a v : ℕ) → csrWriteOf m a v .refusal ≡ writeRefusal m a
   unfolding csrWriteOf csrWriteEvent controllerWrite
-  write-known a v k = rw e (go (ofCounters a) refl (mayWrite m a))
+  first-no-writing a v = rw (e, fifteen a) (go (ofCounters a) refl)
     where
-      go : (s : Bool) → ofCounters a ≡ s → (t : Bool)
+      counter : (i x b d : Bool) → x ≡ false → b ≡ false → _≡_ {A = ℕ} 0 (cond (i || true) (cond (not x) (cond (not b || d) 0 14) 13) 12)
+      counter true x b d f g = rw (f, g)
+      counter false x b d f g = rw (f, g)
+
+      other : (i x b d : Bool) (o : pic.Outcome) → o .refusal ≡ cond i (cond (not x) 0 13) 12 → (b ≡ true → (i ≡ true) × (x ≡ false))
+          → cond (not b || d) (lifted m o) (refused m 14) .refusal ≡ cond (i || false) (cond (not x) (cond (not b || d) 0 14) 13) 12
+      other true x false d o h k = h
+      other false x false d o h k = h
+      other true x true true o h k = h
+      other false x true true o h k = h
+      other i x true false o h k = rw (k refl .0, k refl .1)
+
+      go : (s : Bool) → ofCounters a ≡ s
           → cond s (accepted (withCounters m (csrWritten (m .counters) (csrAt a) v)) 0)
-          (cond t (lifted m (csr-calls.csrWriteOf (m .controller) a v)) (refused m 14)) .refusal ≡ 12 → ⊥
-      go true h t z = omega (arith, z)
-      go false h false z = omega (arith, z)
-      go false h true z = ⊎-elim (λ i. write-not-12 (m .controller) a v i z) (λ i. never (sym h ∙ i)) (or-cases (csrs.isCsr (csrs.csrAt a)) (ofCounters a) k)
+          (cond (mayWrite m a) (lifted m (csr-calls.csrWriteOf (m .controller) a v)) (refused m 14)) .refusal
+          ≡ cond (csrs.isCsr (csrs.csrAt a) || s) (cond (not (eqb a 0xFC8)) (cond (mayWrite m a) 0 14) 13) 12
+      go true h =
+          counter (csrs.isCsr (csrs.csrAt a)) (eqb a 0xFC8) (eqb a 0xBCC) (eqb (m .service .depth) 0) (apart a 0xFC8 (omega arith) h) (apart a 0xBCC (omega arith) h)
+      go false h =
+          other (csrs.isCsr (csrs.csrAt a)) (eqb a 0xFC8) (eqb a 0xBCC) (eqb (m .service .depth) 0) (csr-calls.csrWriteOf (m .controller) a v) (write-refusal (m .controller) a v)
+          (λ g. let z = eqb-true a 0xBCC g in (rw z (known c.Meicurpl refl), ne-eqb a 0xFC8 (λ y. omega (arith, y, z))))
+
+  write-known : (a v : ℕ) → isOneOfFifteen a ≡ true → csrWriteOf m a v .refusal ≡ 12 → ⊥
+  write-known a v h z =
+      let f : csrWriteOf m a v .refusal ≡ cond (not (eqb a 0xFC8)) (cond (mayWrite m a) 0 14) 13 = first-no-writing a v ∙ rw h in
+      go (not (eqb a 0xFC8)) (mayWrite m a) (sym f ∙ z)
+    where
+      go : (t u : Bool) → _≡_ {A = ℕ} (cond t (cond u 0 14) 13) 12 → ⊥
+      go true true y = omega (arith, y)
+      go true false y = omega (arith, y)
+      go false u y = omega (arith, y)
 
 -- Neither of two tests holds.
 neither : (s t : Bool) → (s || t) ≡ false → (s ≡ false) × (t ≡ false)
@@ -166,8 +195,11 @@ question-12 m a v e =
     record {
       reads = read-refusal m e a;
       refuses = λ h. let n = neither (csrs.isCsr (csrs.csrAt a)) (ofCounters a) (sym (fifteen a) ∙ h) in write-refused m e a v (n .0) (n .1);
-      goes-on = λ h. write-known m e a v (sym (fifteen a) ∙ h);
+      goes-on = λ h. write-known m e a v h;
     }
+
+pub write-questions : WriteQuestions
+write-questions m a v e = first-no-writing m e a v
 
 -- A read and a write of a CSR of the counters.
 module _ (m : Machine) (e : soundOf m ≡ true) (r : Csr) (h : isCsr r ≡ true) where

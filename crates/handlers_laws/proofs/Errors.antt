@@ -15,7 +15,7 @@ use Rattle.handlers.specs.declared.Outcome.{Outcome}
 use Rattle.handlers.specs.Machines.{powerOnOf, soundOf}
 use Rattle.handlers.specs.Service.{accepted, refused, ask, errorEvent, eventOf, soundStepOf}
 use Rattle.handlers.specs.Calls.{errorOf, stepOf}
-use Rattle.handlers.specs.Errors.{counterIn, withCounter, PowerOnNoErrors, ErrorQuestions, ErrorCounted, ErrorsCounted, ErrorsAlone}
+use Rattle.handlers_laws.specs.Errors.{counterIn, withCounter, PowerOnNoErrors, ErrorQuestions, ErrorCounted, ErrorsCounted, ErrorsAlone}
 use Rattle.handlers_laws.proofs.Cases.{of-kind, error-event}
 
 pub power-on-no-errors : PowerOnNoErrors

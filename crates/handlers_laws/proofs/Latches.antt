@@ -16,7 +16,7 @@ use Rattle.pic_laws.proofs.Sources.{arraysOf, arrays-follow, csr-write-arrays, 
 use Rattle.handlers.specs.declared.Machine.{Machine}
 use Rattle.handlers.specs.Machines.{uppermost, soundOf}
 use Rattle.handlers.specs.Service.{lookAt}
-use Rattle.handlers.specs.Latches.{LatchFollows, LatchesFollow}
+use Rattle.handlers_laws.specs.Latches.{LatchFollows, LatchesFollow}
 use Rattle.handlers_laws.proofs.Cases.{step-cases}
 use Rattle.handlers_laws.proofs.Facts.{facts}
 

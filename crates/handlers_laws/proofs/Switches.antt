@@ -10,7 +10,7 @@ use Rattle.event.specs.Event.{addressOf}
 use Rattle.pic.specs.declared.Controller.{Controller}
 use Rattle.pic.specs.Sound as pic
 use Rattle.pic.specs.Calls.{priorityOrder, currentRank}
-use Rattle.pic.specs.Orders.{ordered}
+use Rattle.pic_laws.specs.Orders.{ordered}
 use Rattle.pic_registers.specs.Calls as registers
 use Rattle.pic_source.proofs.Bools.{or-cases}
 use Rattle.pic_laws.proofs.Kept.{store-sound, sample-current, store-current, csr-write-current, load-same, csr-read-same, capture-current}
@@ -21,7 +21,7 @@ use Rattle.handlers.specs.Fields.{withController}
 use Rattle.handlers.specs.Machines.{powerOnOf, soundOf}
 use Rattle.handlers.specs.Service.{accepted, ask, lifted, switches, storeEvent}
 use Rattle.handlers.specs.Calls.{storeOf}
-use Rattle.handlers.specs.Switches.{StoreQuestions, withOrder, OrderStored, OrderSwitched, PowerOnSwitched, StoreKeepsCurrent, CurrentKept}
+use Rattle.handlers_laws.specs.Switches.{StoreQuestions, withOrder, OrderStored, OrderSwitched, PowerOnSwitched, StoreKeepsCurrent, CurrentKept}
 use Rattle.handlers_laws.proofs.Cases.{step-cases}
 use Rattle.handlers_laws.proofs.Facts.{facts, controller-sound}
 use Rattle.handlers_laws.proofs.Kept.{kept-order, power-on-ready, power-on-empty}

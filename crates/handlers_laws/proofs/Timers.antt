@@ -5,7 +5,7 @@ use Rattle.counters.proofs.Soundness.{clock-keeps-errors}
 use Rattle.handlers.specs.Machines.{powerOnOf}
 use Rattle.handlers.specs.Service.{clockEvent, eventOf}
 use Rattle.handlers.specs.Calls.{clockOf}
-use Rattle.handlers.specs.Timers.{PowerOnResets, TimersClocked, TimersAlone, ClocksAlone}
+use Rattle.handlers_laws.specs.Timers.{PowerOnResets, TimersClocked, TimersAlone, ClocksAlone}
 use Rattle.handlers_laws.proofs.Cases.{of-kind}
 
 pub power-on-resets : PowerOnResets

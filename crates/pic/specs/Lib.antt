@@ -3,4 +3,3 @@ pub mod Fields
 pub mod Sources
 pub mod Sound
 pub mod Calls
-pub mod Orders

@@ -1,8 +1,7 @@
--- Question 12 as the controller asks it.
+-- Questions 12 and 13 as the controller asks them.
 use Prim.Native.Nat.{ℕ}
 use mathlib.Core.Path.{_≡_, refl}
 use mathlib.Core.Bool.{Bool, true, false, cond, not}
-use native.Mathlib.Omega.{arith}
 use lib.Dec.{eqb}
 use Rattle.pic.specs.declared.Controller.{Controller}
 use Rattle.pic.specs.Calls.{asks, accepts}
@@ -23,10 +22,11 @@ module _ (c : Controller) (a v : ℕ) where
   unfolding csrWriteOf
   write-12 e = rw e
 
-  pub write-not-12 : isCsr (csrAt a) ≡ true → csrWriteOf c a v .refusal ≡ 12 → ⊥
+  pub write-refusal : csrWriteOf c a v .refusal ≡ cond (isCsr (csrAt a)) (cond (not (eqb a 0xFC8)) 0 13) 12
   unfolding csrWriteOf
-  write-not-12 e = rw e (go (not (eqb a 0xFC8)))
+  write-refusal = go (isCsr (csrAt a)) (not (eqb a 0xFC8))
     where
-      go : (t : Bool) → asks c t 13 (accepts (writtenTo c a v) 0) .refusal ≡ 12 → ⊥
-      go true h = omega (arith, h)
-      go false h = omega (arith, h)
+      go : (t u : Bool) → asks c t 12 (asks c u 13 (accepts (writtenTo c a v) 0)) .refusal ≡ cond t (cond u 0 13) 12
+      go true true = refl
+      go true false = refl
+      go false u = refl

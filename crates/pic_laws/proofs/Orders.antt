@@ -11,7 +11,7 @@ use Rattle.pic.specs.declared.Controller.{Controller}
 use Rattle.pic.specs.Sources.{fieldAt}
 use Rattle.pic.specs.Sound.{initial, isCount, soundOf}
 use Rattle.pic.specs.Calls.{accepts, refuses, asks, powerOnOf, sourceCount, priorityOrder, currentRank}
-use Rattle.pic.specs.Orders.{ordered, Turned, AllRanks}
+use Rattle.pic_laws.specs.Orders.{ordered, Turned, AllRanks}
 use Rattle.pic_registers.specs.Offsets.{registerAt, pageRegister, offsetRefusal}
 use Rattle.pic_registers.specs.Registers.{writtenOf}
 use Rattle.pic_registers.specs.Calls.{storeOf}

@@ -1,16 +1,16 @@
 -- Document 02, No. 1 and No. 5: question 12 "widens" to the CSRs of the timers and of the error counters; and what these CSRs keep, of the whole machine.
 use Prim.Native.Nat.{ℕ, _^_, _<_}
 use mathlib.Core.Path.{_≡_}
-use mathlib.Core.Bool.{Bool, true, false, cond, _||_}
+use mathlib.Core.Bool.{Bool, true, false, cond, not, _||_}
 use mathlib.Core.List.{List, [], _∷_, _++_}
 use lib.Dec.{eqb}
 use Rattle.counters.specs.declared.Csr.{Csr}
 use Rattle.counters.specs.Csrs.{csrAddress, isCsr}
 use Rattle.counters.specs.Each.{keptBy}
 use Rattle.handlers.specs.declared.Machine.{Machine}
 use Rattle.handlers.specs.Machines.{soundOf}
-use Rattle.handlers.specs.Service.{refused}
+use Rattle.handlers.specs.Service.{refused, mayWrite}
 use Rattle.handlers.specs.Calls.{csrReadOf, csrWriteOf}
 
 -- The CSRs of 01, in its order; those of the timers; and those of the error counters.
 abbrev pub csrsOf01 : List ℕ
@@ -38,6 +38,13 @@ pub record AsksTwelve (m : Machine) (a v : ℕ) : Type 0 where
 
 abbrev pub Question12 : Type 0
 Question12 = (m : Machine) (a v : ℕ) → soundOf m ≡ true → AsksTwelve m a v
+
+-- 12, 13, 14: a sound machine refuses a write with the first no of the three. 13. Write: is it not 0xFC8? 14. Write to 0xBCC: is no handler open?
+abbrev pub writeRefusal : Machine → ℕ → ℕ
+writeRefusal m a = cond (isOneOfFifteen a) (cond (not (eqb a 0xFC8)) (cond (mayWrite m a) 0 14) 13) 12
+
+abbrev pub WriteQuestions : Type 0
+WriteQuestions = (m : Machine) (a v : ℕ) → soundOf m ≡ true → csrWriteOf m a v .refusal ≡ writeRefusal m a
 
 -- On a sound machine every CSR of a timer or of an error counter can be written and read: it reads what it kept of the value, and the other eight read as before.
 pub record WrittenTo (m : Machine) (r : Csr) (v : ℕ) : Type 0 where

@@ -5,12 +5,12 @@ use mathlib.Core.Bool.{true, false, cond}
 use lib.Dec.{ltb, eqb}
 use Rattle.event.specs.Event.{kindOf}
 use Rattle.pic.specs.Calls.{priorityOrder, currentRank}
-use Rattle.pic.specs.Orders.{ordered, Turned, AllRanks}
+use Rattle.pic_laws.specs.Orders.{ordered, Turned, AllRanks}
 use Rattle.handlers.specs.declared.Machine.{Machine}
 use Rattle.handlers.specs.Fields.{withController}
 use Rattle.handlers.specs.Machines.{powerOnOf, soundOf}
 use Rattle.handlers.specs.Service.{accepted, refused, switches, mayStore}
 use Rattle.handlers.specs.Calls.{storeOf, stepOf}
 
 -- "24 ... after question 11": a sound machine refuses a store with the first no of 10, 11 and 24.
 abbrev pub storeRefusal : Machine → ℕ → ℕ → ℕ

@@ -1,0 +1,2 @@
+-- What is proved of the whole controller.
+pub mod Orders
