@@ -15,7 +15,7 @@ use Rattle.handlers_stack.specs.Stacks.{blank}
 use Rattle.handlers.specs.declared.Machine.{Machine}
 use Rattle.handlers.specs.declared.Outcome.{Outcome}
 use Rattle.handlers.specs.Machines.{uppermost, soundOf}
-use Rattle.handlers.specs.Service.{accepted, ask, lookAt, captured, chainEvent, lookEvent, commitEvent, eventOf, soundStepOf}
+use Rattle.handlers.specs.Service.{accepted, ask, lookAt, captured, chainEvent, lookEvent, eventOf, soundStepOf}
 use Rattle.handlers.specs.Calls.{soundFirst, chainOf, lookOf, commitOf, stepOf}
 use Rattle.handlers_laws.specs.Commits.{firstNo, LookQuestions, CommitQuestions, LooksAlone, Tells, LookTells, CommitsChain, CommitAnswers, headOf, commitAfter, ChainIsLookThenCommit}
 use Rattle.handlers_laws.proofs.Cases.{commit-served, of-kind}

@@ -1,7 +1,7 @@
 -- The events of the handler service in the machine: each question of the service is one of the machine, and what an accepted event makes of the whole machine.
 use Prim.Native.Nat.{ℕ, _-_}
 use mathlib.Core.Path.{_≡_, refl, ap, _∙_}
-use mathlib.Core.Bool.{Bool, true, false, cond, not, _&&_, _||_}
+use mathlib.Core.Bool.{Bool, true, false, cond, _||_}
 use native.Mathlib.Omega.{arith}
 use lib.Dec.{leb, eqb}
 use lib.IntN.{pos}
@@ -20,7 +20,7 @@ use Rattle.handlers.specs.declared.Machine.{Machine}
 use Rattle.handlers.specs.declared.Outcome.{Outcome}
 use Rattle.handlers.specs.Fields.{withController, withService}
 use Rattle.handlers.specs.Machines.{uppermost}
-use Rattle.handlers.specs.Service.{accepted, refused, ask, lookAt, servedWith, capturedIn, captured, takeEvent, openEvent, chainEvent, returnEvent, setMaskEvent, lookEvent, commitEvent}
+use Rattle.handlers.specs.Service.{accepted, ask, lookAt, servedWith, capturedIn, captured, takeEvent, openEvent, chainEvent, returnEvent, setMaskEvent, lookEvent, commitEvent}
 
 abbrev pub hasHandler : Machine → Bool
 hasHandler m = service.hasHandler (m .service)

@@ -2,9 +2,6 @@ use Rattle.handlers.specs.Machines.{soundOf}
 use borrow.Author.Needs.{needs}
 use Rattle.handlers.proofs.Machine.is_sound.Statement.{statement}
 use Rattle.handlers.proofs.Machine.is_sound.Tie as tie
-use Rattle.counters.proofs.Counters.is_sound.Reads as Counters-is-sound-reads
-use Rattle.handlers_service.proofs.Service.is_sound.Reads as Service-is-sound-reads
-use Rattle.pic.proofs.Controller.is_sound.Reads as Controller-is-sound-reads
 
 source-count-requires : tie.Need-source-count-requires
 source-count-requires c κs = search needs

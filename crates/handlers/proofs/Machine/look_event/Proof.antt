@@ -2,8 +2,6 @@ use Rattle.handlers.specs.Service.{lookEvent}
 use borrow.Author.Needs.{needs}
 use Rattle.handlers.proofs.Machine.look_event.Statement.{statement}
 use Rattle.handlers.proofs.Machine.look_event.Tie as tie
-use Rattle.handlers_service.proofs.Service.look.Reads as Service-look-reads
-use Rattle.pic.proofs.Controller.look.Reads as Controller-look-reads
 
 look-requires : tie.Need-look-requires
 look-requires c κs = search needs

@@ -2,8 +2,6 @@ use Rattle.handlers.specs.Machines.{powerOnOf}
 use borrow.Author.Needs.{needs}
 use Rattle.handlers.proofs.Machine.power_on.Statement.{statement}
 use Rattle.handlers.proofs.Machine.power_on.Tie as tie
-use Rattle.counters.proofs.Counters.reset.Reads as Counters-reset-reads
-use Rattle.handlers_service.proofs.Service.reset.Reads as Service-reset-reads
 
 power-on-requires : tie.Need-power-on-requires
 power-on-requires c κs = search needs
