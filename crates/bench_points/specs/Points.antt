@@ -9,7 +9,8 @@ use mathlib.Core.Bool.{Bool, true, false, cond}
 use mathlib.Core.List.{List, [], _∷_, _++_}
 use lib.ListN.{take as first}
 use lib.IntN.{ℤ, pos, negsuc}
-use Rattle.event.specs.Event.{kindOf, addressOf}
+use Rattle.event.specs.Kinds as kind
+use Rattle.event.specs.Event.{kindOf, addressOf, noKind}
 use Rattle.event.specs.Listing.{listingSources, listingHeads, listingValues}
 use Rattle.pic_source.specs.declared.Rank.{Rank}
 use Rattle.pic_source.specs.Ranks.{rank, field}
@@ -49,7 +50,7 @@ pub record Row : Type 0 where
 
 -- An event of this kind, address and value, accepted. "Answers not named are 0."
 abbrev pub event : ℕ → ℕ → ℕ → Row
-event kind address value = record { head = kind * 65536 + address; value = value; answer = 0; refusal = 0 }
+event k address value = record { head = k * 65536 + address; value = value; answer = 0; refusal = 0 }
 
 -- The same event with another answer.
 infix 80 _answers_
@@ -61,7 +62,7 @@ infix 80 _refused_
 abbrev pub _refused_ : Row → ℕ → Row
 e refused q = record { head = e .head; value = e .value; answer = 0; refusal = q }
 
--- The fourteen kinds. Sample: a word number and its bits. Load and store: an offset. CSR read and write: a CSR. Set mask: the value. Error: the counter. Commit: the
+-- The kinds, by their numbers in the documents. Sample: a word number and its bits. Load and store: an offset. CSR read and write: a CSR. Set mask: the value. Error: the counter. Commit: the
 -- source.
 abbrev pub sample : ℕ → ℕ → Row
 sample x v = event 0 x v
@@ -610,7 +611,7 @@ pub record Points : Type 0 where
   pub k2-never : (m : Machine) (s : ℕ) → priorityOrder (m .controller) ≡ 1 → fieldAt (m .controller) s ≡ field 15 → eligibleAt (m .controller) s ≡ false
   pub k2-stored : (m : Machine) (s v : ℕ) → soundOf m ≡ true → 1 ≤ s → s ≤ sourceCount (m .controller)
       → fieldAt (storeOf m (meipl s) v .machine .controller) s ≡ field (v % 16)
-  pub k2-kept : (m : Machine) (head value s : ℕ) → (kindOf head ≡ 2 → addressOf head ≡ meipl s → ⊥)
+  pub k2-kept : (m : Machine) (head value s : ℕ) → (kindOf head ≡ kind.store → addressOf head ≡ meipl s → ⊥)
       → fieldAt (stepOf m head value .machine .controller) s ≡ fieldAt (m .controller) s
   -- Switched back, field 15 is rank 15.
   pub k2-back : Plays 4 (mirrored ++ (store mpiccfg 0 ∷ load (meipl 2) answers 15 ∷ over 0 0) ++ (take answers 8 ∷ open-handler answers 15 ∷ []))
@@ -816,7 +817,7 @@ pub record Points : Type 0 where
       ∷ []
   -- Fewer than 8 bytes; and an event of no kind, where the big reader's number and place are given.
   pub compact-1 : compactVerdict (0 ∷ 0 ∷ 0 ∷ 0 ∷ 64 ∷ 0 ∷ 0 ∷ []) ≡ verdict 1 0
-  pub compact-6 : compactVerdict (recordOf 63 (0x50000 ∷ 0xE0000 ∷ []) (0 ∷ 0 ∷ [])) ≡ verdict 6 1
+  pub compact-6 : compactVerdict (recordOf 63 (0x50000 ∷ noKind * 65536 ∷ []) (0 ∷ 0 ∷ [])) ≡ verdict 6 1
   -- "A record that both accept prints the same lines on both."
   pub compact-listing : compactPrintOf (recordOf listingSources listingHeads listingValues) ≡ ascii listing-text
   pub compact-print-22 : compactPrintOf (sizes 0 64) ≡ ascii "refused 22 at 0\n"
@@ -889,7 +890,7 @@ pub record Points : Type 0 where
   pub errors-wrap-0 : Plays 4 (csrWrite (ect 0) 0x07FFFFFF ∷ counts-to 0 0 0x00000000 ++ counts-to 0 1 0x00000001)
   pub errors-26 : Plays 4 (csrWrite (ect 1) 0xD3FFFFFE ∷ counts-to 1 0 0xD3FFFFFF ++ counts-to 1 1 0xD4000000 ++ counts-to 1 1 0xD4000001)
   pub errors-25 : Plays 4 (csrWrite (ect 1) 0xCBFFFFFE ∷ counts-to 1 1 0xCBFFFFFF ++ counts-to 1 0 0xCC000000)
-  -- "25 when the address is above 2, after question 7"; its value is unused; there is no kind 14.
+  -- "25 when the address is above 2, after question 7"; its value is unused; the number after the last kind is of no kind.
   pub errors-questions :
       Plays 4
       (error 2 answers 1
@@ -897,8 +898,8 @@ pub record Points : Type 0 where
       ∷ error 0xFFFF refused 25
       ∷ event 11 3 1 refused 7
       ∷ event 11 0 0xFFFFFFFF refused 7
-      ∷ event 14 0 0 refused 6
-      ∷ event 14 3 1 refused 6
+      ∷ event noKind 0 0 refused 6
+      ∷ event noKind 3 1 refused 6
       ∷ ects 0 0 1)
   -- "The record's reader and writer don't check it": a record with such addresses is read and played; 6 and 7 are asked.
   pub errors-read : boardVerdict (recordOf 4 (0xB0003 ∷ 0xBFFFF ∷ []) (0 ∷ 0 ∷ [])) ≡ noRefusal
@@ -918,10 +919,10 @@ pub record Points : Type 0 where
   pub commits-wrong-held : Holds (after 4 wrong) 1 (handler 1 15 0 1 ∷ []) 15
   pub commits-lower : Plays 4 (other-rank 4)
   pub commits-higher : Plays 4 (other-rank 6)
-  -- "Both come under questions 17 and 19", 7 before and 26 after them; there is no kind 14.
+  -- "Both come under questions 17 and 19", 7 before and 26 after them; the number after the last kind is of no kind.
   pub commits-questions :
       Plays 4
-      ((look refused 17 ∷ commit 0 refused 17 ∷ event 12 1 0 refused 7 ∷ event 12 0 1 refused 7 ∷ event 13 2 1 refused 7 ∷ event 14 0 0 refused 6 ∷ [])
+      ((look refused 17 ∷ commit 0 refused 17 ∷ event 12 1 0 refused 7 ∷ event 12 0 1 refused 7 ∷ event 13 2 1 refused 7 ∷ event noKind 0 0 refused 6 ∷ [])
       ++ both-15
       ++ (look refused 19 ∷ commit 2 refused 19 ∷ commit 0 refused 19 ∷ mask 0 ∷ event 13 2 1 refused 7 ∷ commit 2 answers 8 ∷ []))
   -- An unopened handler, and its own source: the look answers it, and the commit serves it again. Base is that of the commit.
@@ -941,10 +942,10 @@ pub record Points : Type 0 where
   -- "27 when the writer is given kind 7, after question 6 at that event", with the place of the first such event;
   pub retired-27 : writing (0x50000 ∷ 0x70000 ∷ 0x70000 ∷ []) (0 ∷ 0 ∷ 0 ∷ []) ≡ verdict 27 1
   -- before question 7 at that event, whatever its address and value, and before all questions of the events after it,
-  pub retired-before-7 : writing (0x7FFFF ∷ 0xE0000 ∷ []) (1 ∷ 0 ∷ []) ≡ verdict 27 0
+  pub retired-before-7 : writing (0x7FFFF ∷ noKind * 65536 ∷ []) (1 ∷ 0 ∷ []) ≡ verdict 27 0
   -- after those of the events before it, and after questions 2 to 5.
   pub retired-after-7 : writing (0x50001 ∷ 0x70000 ∷ []) (0 ∷ 0 ∷ []) ≡ verdict 7 0
-  pub retired-after-6 : writing (0xE0000 ∷ 0x70000 ∷ []) (0 ∷ 0 ∷ []) ≡ verdict 6 0
+  pub retired-after-6 : writing (noKind * 65536 ∷ 0x70000 ∷ []) (0 ∷ 0 ∷ []) ≡ verdict 6 0
   pub retired-after-5 : writeVerdict 4 (0x70000 ∷ []) (0 ∷ []) 15 ≡ verdict 5 0
   -- The kinds beside it, look and commit, and a 7 elsewhere are written as before.
   pub retired-others : writing (0x60000 ∷ 0x80000 ∷ 0xC0000 ∷ 0xD0007 ∷ 0x00007 ∷ []) (0 ∷ 0 ∷ 0 ∷ 0 ∷ 7 ∷ []) ≡ noRefusal

@@ -6,6 +6,7 @@ use mathlib.Core.Logic.{_⊎_}
 use mathlib.Core.List.{List, [], _∷_, map}
 use lib.ListN.{length}
 use lib.Dec.{eqb}
+use Rattle.event.specs.Kinds as kind
 use Rattle.event.specs.Event.{kindOf}
 use Rattle.pic.specs.declared.Controller.{Controller}
 use Rattle.pic.specs.Sources.{rankAt, enableAt, pendingAt, thresholdOf}
@@ -40,15 +41,15 @@ answerOf o = record { answer = o .answer; refusal = o .refusal }
 -- A taking is an accepted take. A chaining is an accepted chain whose answer isn't 0, and "a commit counts as a chaining in the nesting result" (document 02, No. 7). A
 -- return is an accepted one.
 abbrev pub acceptedClass : ℕ → ℕ → Class
-acceptedClass kind answer =
-    cond (eqb kind 5) isTaking
-    (cond (eqb kind 7) (cond (eqb answer 0) isOther isChaining)
-    (cond (eqb kind 8) isReturn
-    (cond (eqb kind 13) isChaining
+acceptedClass k answer =
+    cond (eqb k kind.take) isTaking
+    (cond (eqb k kind.chain) (cond (eqb answer 0) isOther isChaining)
+    (cond (eqb k kind.return) isReturn
+    (cond (eqb k kind.commit) isChaining
     isOther)))
 
 abbrev pub classBy : ℕ → Answer → Class
-classBy kind a = cond (eqb (a .refusal) 0) (acceptedClass kind (a .answer)) isOther
+classBy k a = cond (eqb (a .refusal) 0) (acceptedClass k (a .answer)) isOther
 
 -- A handler as the claim sees it: the mark of Open is not seen.
 abbrev pub seen : Handler → claim.Handler ℕ ℕ ℕ

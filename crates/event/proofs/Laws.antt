@@ -7,6 +7,7 @@ use native.Mathlib.Omega.{arith}
 use lib.ListN.{length}
 use lib.Dec.{lit≤, eqb}
 use borrow.Author.Tests.{lt-ltb, le-ltb, ltb-true, ltb-false}
+use Rattle.event.specs.Kinds as kind
 use Rattle.event.specs.Event.{uses, kinds, kindOf, addressOf, isKind, rowOf, unusedAreZero, shapeOf, ErrorShape, CommitShape, LookShape, ChainShape}
 
 -- A kind is printed in at most two digits.
@@ -51,13 +52,13 @@ unfolding shapeOf
 of-row k address value i r head v e = rw (e, i, r)
 
 pub error-shape : ErrorShape
-error-shape = of-row 11 true false refl refl
+error-shape = of-row kind.error true false refl refl
 
 pub commit-shape : CommitShape
-commit-shape = of-row 13 true false refl refl
+commit-shape = of-row kind.commit true false refl refl
 
 pub look-shape : LookShape
-look-shape = of-row 12 false false refl refl
+look-shape = of-row kind.look false false refl refl
 
 pub chain-shape : ChainShape
-chain-shape = of-row 7 false false refl refl
+chain-shape = of-row kind.chain false false refl refl

@@ -6,6 +6,7 @@ use mathlib.Core.List.{List, [], _∷_}
 use lib.ListN.{length, getD}
 use lib.Dec.{ltb, eqb}
 use Rattle.event.specs.declared.Uses.{Uses}
+use Rattle.event.specs.Kinds as kind
 
 -- Kind = head / 65,536.
 abbrev pub kindOf : ℕ → ℕ
@@ -40,9 +41,13 @@ kinds =
     ∷ uses true false  -- 13 commit
     ∷ []
 
+-- The number after the last kind: the least that is of no kind.
+abbrev pub noKind : ℕ
+noKind = length kinds
+
 -- 6. Is the kind 0..13? It has a row.
 abbrev pub isKind : ℕ → Bool
-isKind k = ltb k (length kinds)
+isKind k = ltb k noKind
 
 -- The row of a kind.
 abbrev pub rowOf : ℕ → Uses
@@ -65,14 +70,14 @@ UsesNeither k = (head value : ℕ) → kindOf head ≡ k → shapeOf head value 
 
 -- Document 02, No. 5: "the record's reader and writer don't check" question 25. Of an event of kind 11 they ask that the value is 0, and nothing of the address.
 abbrev pub ErrorShape : Type 0
-ErrorShape = UsesAddress 11
+ErrorShape = UsesAddress kind.error
 
 -- No. 7: of a commit they ask the same, and nothing of the number that it commits; of a look, as the reader of a chain, that address and value are 0.
 abbrev pub CommitShape : Type 0
-CommitShape = UsesAddress 13
+CommitShape = UsesAddress kind.commit
 
 abbrev pub LookShape : Type 0
-LookShape = UsesNeither 12
+LookShape = UsesNeither kind.look
 
 abbrev pub ChainShape : Type 0
-ChainShape = UsesNeither 7
+ChainShape = UsesNeither kind.chain

@@ -1,3 +1,4 @@
--- What an event is, and the events of 01's listing.
+-- The kinds, what an event is, and the events of 01's listing.
+pub mod Kinds
 pub mod Event
 pub mod Listing

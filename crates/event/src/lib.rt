@@ -1,5 +1,7 @@
 // An event of a record: a head and a value, 32 bits each.
 
+pub mod kinds;
+
 ghost use mathlib.Core.Path.{_≡_};
 ghost use Rattle.event.specs.Event.{kindOf, addressOf, shapeOf};
 

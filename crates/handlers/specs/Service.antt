@@ -3,6 +3,7 @@
 use Prim.Native.Nat.{ℕ, _%_}
 use mathlib.Core.Bool.{Bool, cond, not, _&&_, _||_}
 use lib.Dec.{eqb}
+use Rattle.event.specs.Kinds as kind
 use Rattle.event.specs.Event.{kindOf, addressOf, shapeOf}
 use Rattle.pic.specs.declared.Look.{Look}
 use Rattle.pic.specs.declared.Controller.{Controller}
@@ -131,24 +132,23 @@ lookEvent m = servedWith m (service.lookOf (m .service) (lookAt m)) (m .controll
 unfoldable pub commitEvent : Machine → ℕ → Outcome
 commitEvent m s = servedWith m (service.commitOf (m .service) (lookAt m) s) (capturedIn m)
 
--- An event by its kind: 0 sample, 1 load, 2 store, 3 CSR read, 4 CSR write, 5 take, 6 open, 7 chain, 8 return, 9 set mask to the value, 10 clock, 11 error, 12 look,
--- 13 commit. A kind that there is not is refused with 6.
+-- An event by its kind. A kind that there is not is refused with 6.
 unfoldable pub eventOf : Machine → ℕ → ℕ → ℕ → Outcome
-eventOf m kind address value =
-    cond (eqb kind 0) (sampleEvent m address value)
-    (cond (eqb kind 1) (loadEvent m address)
-    (cond (eqb kind 2) (storeEvent m address value)
-    (cond (eqb kind 3) (csrReadEvent m address)
-    (cond (eqb kind 4) (csrWriteEvent m address value)
-    (cond (eqb kind 5) (takeEvent m)
-    (cond (eqb kind 6) (openEvent m)
-    (cond (eqb kind 7) (chainEvent m)
-    (cond (eqb kind 8) (returnEvent m)
-    (cond (eqb kind 9) (setMaskEvent m value)
-    (cond (eqb kind 10) (clockEvent m)
-    (cond (eqb kind 11) (errorEvent m address)
-    (cond (eqb kind 12) (lookEvent m)
-    (cond (eqb kind 13) (commitEvent m address)
+eventOf m k address value =
+    cond (eqb k kind.sample) (sampleEvent m address value)
+    (cond (eqb k kind.load) (loadEvent m address)
+    (cond (eqb k kind.store) (storeEvent m address value)
+    (cond (eqb k kind.csrRead) (csrReadEvent m address)
+    (cond (eqb k kind.csrWrite) (csrWriteEvent m address value)
+    (cond (eqb k kind.take) (takeEvent m)
+    (cond (eqb k kind.openHandler) (openEvent m)
+    (cond (eqb k kind.chain) (chainEvent m)
+    (cond (eqb k kind.return) (returnEvent m)
+    (cond (eqb k kind.setMask) (setMaskEvent m value)
+    (cond (eqb k kind.clock) (clockEvent m)
+    (cond (eqb k kind.error) (errorEvent m address)
+    (cond (eqb k kind.look) (lookEvent m)
+    (cond (eqb k kind.commit) (commitEvent m address)
     (refused m 6))))))))))))))
 
 -- An event on a machine that is known to be sound: 6 and 7, then its kind's.

@@ -9,6 +9,7 @@ use counters::Counted;
 use counters::Counters;
 use counters::csrs::csr_at;
 use counters::csrs::is_csr;
+use event::kinds;
 use pic::Controller;
 
 impl Machine {
@@ -133,20 +134,20 @@ impl Machine {
         }
         let address = event::address(head);
         match event::kind(head) {
-            0 => self.sample_event(address, value),
-            1 => self.load_event(address),
-            2 => self.store_event(address, value),
-            3 => self.csr_read_event(address),
-            4 => self.csr_write_event(address, value),
-            5 => self.take_event(),
-            6 => self.open_event(),
-            7 => self.chain_event(),
-            8 => self.return_event(),
-            9 => self.set_mask_event(value),
-            10 => self.clock_event(),
-            11 => self.error_event(address),
-            12 => self.look_event(),
-            13 => self.commit_event(address),
+            kinds::SAMPLE => self.sample_event(address, value),
+            kinds::LOAD => self.load_event(address),
+            kinds::STORE => self.store_event(address, value),
+            kinds::CSR_READ => self.csr_read_event(address),
+            kinds::CSR_WRITE => self.csr_write_event(address, value),
+            kinds::TAKE => self.take_event(),
+            kinds::OPEN => self.open_event(),
+            kinds::CHAIN => self.chain_event(),
+            kinds::RETURN => self.return_event(),
+            kinds::SET_MASK => self.set_mask_event(value),
+            kinds::CLOCK => self.clock_event(),
+            kinds::ERROR => self.error_event(address),
+            kinds::LOOK => self.look_event(),
+            kinds::COMMIT => self.commit_event(address),
             _ => self.refuse(6),
         }
     }

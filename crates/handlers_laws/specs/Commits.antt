@@ -5,6 +5,7 @@ use mathlib.Core.Path.{_≡_}
 use mathlib.Core.Bool.{Bool, true, cond, _&&_}
 use lib.ListN.{length}
 use lib.Dec.{eqb}
+use Rattle.event.specs.Kinds as kind
 use Rattle.event.specs.Event.{kindOf, addressOf}
 use Rattle.pic.specs.Sources.{thresholdOf, HasWinner}
 use Rattle.pic.specs.Calls.{sourceCount}
@@ -22,18 +23,18 @@ firstNo m seven q = cond seven (cond (hasHandler (m .service)) (cond (eqb (m .se
 -- "Both come under questions 17 and 19": a sound machine refuses an event of kind 12 with the first no of 7, 17 and 19,
 abbrev pub LookQuestions : Type 0
 LookQuestions =
-    (m : Machine) (head value : ℕ) → soundOf m ≡ true → kindOf head ≡ 12
+    (m : Machine) (head value : ℕ) → soundOf m ≡ true → kindOf head ≡ kind.look
     → stepOf m head value .refusal ≡ firstNo m (eqb (addressOf head) 0 && eqb value 0) 0
 
 -- and one of kind 13 with the first no of 7, 17, 19 and 26.
 abbrev pub CommitQuestions : Type 0
 CommitQuestions =
-    (m : Machine) (head value : ℕ) → soundOf m ≡ true → kindOf head ≡ 13
+    (m : Machine) (head value : ℕ) → soundOf m ≡ true → kindOf head ≡ kind.commit
     → stepOf m head value .refusal ≡ firstNo m (eqb value 0) (cond (mayCommit (addressOf head) (nextSource (m .service) (lookAt m))) 0 26)
 
 -- A look "changes nothing, with no capture": no event of kind 12 changes anything, on any machine, refused or not.
 abbrev pub LooksAlone : Type 0
-LooksAlone = (m : Machine) (head value : ℕ) → kindOf head ≡ 12 → stepOf m head value .machine ≡ m
+LooksAlone = (m : Machine) (head value : ℕ) → kindOf head ≡ kind.look → stepOf m head value .machine ≡ m
 
 -- "It answers the source that a chain would serve, or 0." On a sound machine, where a look that is accepted answers 0, a chain serves nothing. Where it answers s, that is the
 -- winner, its rank is the uppermost handler's and above the threshold; a chain answers base + 4 × s, and s is the source of the uppermost handler then.
@@ -57,21 +58,21 @@ CommitsChain = (m : Machine) (s : ℕ) → commitOf m s .refusal ≡ 0 → Commi
 
 -- An event of kind 13 that is accepted never answers 0.
 abbrev pub CommitAnswers : Type 0
-CommitAnswers = (m : Machine) (head value : ℕ) → kindOf head ≡ 13 → stepOf m head value .refusal ≡ 0 → stepOf m head value .answer ≡ 0 → ⊥
+CommitAnswers = (m : Machine) (head value : ℕ) → kindOf head ≡ kind.commit → stepOf m head value .refusal ≡ 0 → stepOf m head value .answer ≡ 0 → ⊥
 
 -- An event of this kind and address.
 abbrev pub headOf : ℕ → ℕ → ℕ
-headOf kind address = kind * 65536 + address
+headOf k address = k * 65536 + address
 
 -- "A look and then a commit of a non-zero answer", as events with what the look was given: the look's refusal; where it answers 0, a capture and the answer 0; else what a
 -- commit of its answer does and answers on the machine that the look handed back.
 abbrev pub commitAfter : Outcome → Outcome
 commitAfter looked =
     cond (eqb (looked .refusal) 0)
-    (cond (eqb (looked .answer) 0) (accepted (captured (looked .machine)) 0) (stepOf (looked .machine) (headOf 13 (looked .answer)) 0))
+    (cond (eqb (looked .answer) 0) (accepted (captured (looked .machine)) 0) (stepOf (looked .machine) (headOf kind.commit (looked .answer)) 0))
     (refused (looked .machine) (looked .refusal))
 
 -- "Kind 7 does what a look and then a commit of a non-zero answer do, apart from capturing when it answers 0": for every machine, sound or not, and every address and
 -- value, also those that both refuse.
 abbrev pub ChainIsLookThenCommit : Type 0
-ChainIsLookThenCommit = (m : Machine) (a v : ℕ) → a < 65536 → stepOf m (headOf 7 a) v ≡ commitAfter (stepOf m (headOf 12 a) v)
+ChainIsLookThenCommit = (m : Machine) (a v : ℕ) → a < 65536 → stepOf m (headOf kind.chain a) v ≡ commitAfter (stepOf m (headOf kind.look a) v)

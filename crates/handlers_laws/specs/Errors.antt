@@ -3,6 +3,7 @@ use Prim.Native.Nat.{ℕ, _<_}
 use mathlib.Core.Path.{_≡_}
 use mathlib.Core.Bool.{true, cond}
 use lib.Dec.{eqb}
+use Rattle.event.specs.Kinds as kind
 use Rattle.event.specs.Event.{kindOf, addressOf}
 use Rattle.counters_errors.specs.declared.ErrorCounter.{ErrorCounter}
 use Rattle.counters_errors.specs.Errors.{selectedBit, errorAt, withError, mayCount, afterError}
@@ -28,7 +29,7 @@ PowerOnNoErrors = (n i : ℕ) → HasParts (counterIn (powerOnOf n .machine) i) 
 -- "25 when the address is above 2, after question 7 when the event is played": a sound machine refuses an event of kind 11 with the first no of 7 and 25.
 abbrev pub ErrorQuestions : Type 0
 ErrorQuestions =
-    (m : Machine) (head value : ℕ) → soundOf m ≡ true → kindOf head ≡ 11 → stepOf m head value .refusal ≡ cond (eqb value 0) (cond (mayCount (addressOf head)) 0 25) 7
+    (m : Machine) (head value : ℕ) → soundOf m ≡ true → kindOf head ≡ kind.error → stepOf m head value .refusal ≡ cond (eqb value 0) (cond (mayCount (addressOf head)) 0 25) 7
 
 -- "One proof serves the three": an error in counter i of a sound machine is accepted. It is counted there, and nothing else changes; the answer is the bit of its
 -- count that its threshold selects, afterwards. With any other number it is refused with 25.
@@ -48,5 +49,5 @@ ErrorsCounted = (m : Machine) → soundOf m ≡ true → ErrorsCount m
 -- other two counters are as before.
 abbrev pub ErrorsAlone : Type 0
 ErrorsAlone =
-    (m : Machine) (head value : ℕ) → kindOf head ≡ 11
+    (m : Machine) (head value : ℕ) → kindOf head ≡ kind.error
     → stepOf m head value .machine ≡ withCounter m (addressOf head) (counterIn (stepOf m head value .machine) (addressOf head))

@@ -3,6 +3,7 @@ use Prim.Native.Nat.{ℕ, _≤_}
 use mathlib.Core.Path.{_≡_}
 use mathlib.Core.Bool.{Bool, true, cond, _&&_}
 use lib.Dec.{eqb}
+use Rattle.event.specs.Kinds as kind
 use Rattle.event.specs.Event.{kindOf, addressOf}
 use Rattle.pic_source.specs.Sources.{isActive}
 use Rattle.pic.specs.declared.Controller.{Controller}
@@ -16,7 +17,7 @@ use Rattle.handlers.specs.Calls.{stepOf}
 
 -- meigwclrS: a store of any value clears the latch. This event is a store to the meigwclr of source s.
 abbrev pub clearsLatch : ℕ → ℕ → Bool
-clearsLatch head s = eqb (kindOf head) 2 && eqb (addressOf head) (offsetOf (Meigwclr s))
+clearsLatch head s = eqb (kindOf head) kind.store && eqb (addressOf head) (offsetOf (Meigwclr s))
 
 -- A latch is set if its line is active, or if it was set and this event didn't clear it.
 abbrev pub LatchFollows : Controller → Controller → Bool → ℕ → Type 0

@@ -3,6 +3,7 @@ use Prim.Native.Nat.{ℕ, _%_, _<_}
 use mathlib.Core.Path.{_≡_}
 use mathlib.Core.Bool.{true, false, cond}
 use lib.Dec.{ltb, eqb}
+use Rattle.event.specs.Kinds as kind
 use Rattle.event.specs.Event.{kindOf}
 use Rattle.pic.specs.Calls.{priorityOrder, currentRank}
 use Rattle.pic_laws.specs.Orders.{ordered, Turned, AllRanks}
@@ -57,5 +58,5 @@ StoreKeepsCurrent =
 -- While a handler is open, no event but open and return changes it.
 abbrev pub CurrentKept : Type 0
 CurrentKept =
-    (m : Machine) (head value : ℕ) → 0 < m .service .depth → (kindOf head ≡ 6 → ⊥) → (kindOf head ≡ 8 → ⊥)
+    (m : Machine) (head value : ℕ) → 0 < m .service .depth → (kindOf head ≡ kind.openHandler → ⊥) → (kindOf head ≡ kind.return → ⊥)
     → currentRank (stepOf m head value .machine .controller) ≡ currentRank (m .controller)

@@ -2,6 +2,7 @@
 use Prim.Native.Nat.{ℕ, _/_, _%_, _^_, _<_}
 use mathlib.Core.Path.{_≡_}
 use mathlib.Core.Bool.{true}
+use Rattle.event.specs.Kinds as kind
 use Rattle.event.specs.Event.{kindOf}
 use Rattle.counters_timers.specs.Timers.{timerAt, resetTimer, signalBit, afterClock}
 use Rattle.handlers.specs.declared.Machine.{Machine}
@@ -31,4 +32,4 @@ pub record TimersAlone (before after : Machine) : Type 0 where
   pub errors : after .counters .errors ≡ before .counters .errors
 
 abbrev pub ClocksAlone : Type 0
-ClocksAlone = (m : Machine) (head value : ℕ) → kindOf head ≡ 10 → TimersAlone m (stepOf m head value .machine)
+ClocksAlone = (m : Machine) (head value : ℕ) → kindOf head ≡ kind.clock → TimersAlone m (stepOf m head value .machine)

@@ -4,6 +4,7 @@ use mathlib.Core.Bool.{Bool, _&&_, cond}
 use mathlib.Core.List.{List, [], _∷_}
 use lib.ListN.{length}
 use lib.Dec.{leb, eqb}
+use Rattle.event.specs.Kinds as kind
 use Rattle.event.specs.Event.{kindOf, isKind, shapeOf}
 use Rattle.record.specs.declared.Limits.{Limits}
 use Rattle.record.specs.declared.Verdict.{Verdict}
@@ -47,7 +48,7 @@ arraysHold n headPlaces valuePlaces = leb n headPlaces && leb n valuePlaces
 
 -- Document 02, No. 8, "Kind 7 retired": the event is of the kind that the writer no longer takes.
 abbrev pub isRetired : ℕ → Bool
-isRetired head = eqb (kindOf head) 7
+isRetired head = eqb (kindOf head) kind.chain
 
 -- The check of an event that is read is 6 and 7. That of an event that is written: 6; "27 when the writer is given kind 7, after question 6 at that event"; then 7.
 unfoldable pub writeShapeOf : ℕ → ℕ → ℕ

@@ -6,6 +6,7 @@ use mathlib.Core.Logic.{_⊎_}
 use mathlib.Core.List.{List}
 use lib.ListN.{length, getD}
 use lib.Dec.{eqb}
+use Rattle.event.specs.Kinds as kind
 use Rattle.event.specs.Event.{kindOf, addressOf, isKind, unusedAreZero, shapeOf}
 use Rattle.record.specs.Questions.{verdict, noRefusal, isRetired, writeShapeOf, walk, writeVerdict}
 
@@ -29,7 +30,7 @@ FirstNoWriting =
 
 -- The event at a place is of kind 7.
 abbrev pub RetiredAt : List ℕ → ℕ → Type 0
-RetiredAt heads p = (p < length heads) × (kindOf (getD heads p 0) ≡ 7)
+RetiredAt heads p = (p < length heads) × (kindOf (getD heads p 0) ≡ kind.chain)
 
 -- "Records without kind 7."
 abbrev pub NoneRetired : List ℕ → Type 0

@@ -59,7 +59,7 @@ fn write_shape(head: u32, value: u32) -> u8
     if refusal == 6 {
         return refusal;
     }
-    if event::kind(head) == 7 {
+    if event::kind(head) == event::kinds::CHAIN {
         return 27;
     }
     refusal
