@@ -26,6 +26,9 @@ pub const COMMIT: u32 = 13;
 /// The kinds are the numbers below this one.
 pub const KINDS: u32 = 14;
 
+/// The head with the number after the last kind, which is of no kind, and address 0.
+pub const NO_KIND: u32 = KINDS << 16;
+
 /// An event of a known kind whose unused parts are 0.
 #[derive(Clone, Copy, Debug, PartialEq, Eq)]
 pub enum Action {

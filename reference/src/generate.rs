@@ -3147,7 +3147,7 @@ fn wrong_length(right: usize, random: &mut Random) -> usize {
 
 // Records for measurements.
 
-/// A record of exactly `size` events, all accepted: `samples`, `mixed` or `nested`.
+/// A record of exactly `size` events, all accepted: `samples`, `mixed`, `nested` or `added`.
 pub fn bench_record(name: &str, size: usize) -> Option<Vec<u8>> {
     let mut random = Random::new(0x0BE2_C41E);
     let mut script = Script::with_count(&mut random, 255, size);
@@ -3155,6 +3155,7 @@ pub fn bench_record(name: &str, size: usize) -> Option<Vec<u8>> {
         "samples" => bench_samples(&mut script, &mut random),
         "mixed" => bench_mixed(&mut script, &mut random),
         "nested" => bench_nested(&mut script, &mut random),
+        "added" => bench_added(&mut script, &mut random),
         _ => return None,
     }
     Some(finish(script))
@@ -3220,6 +3221,36 @@ fn bench_nested(script: &mut Script, random: &mut Random) {
             script.set_active(pair[1], false);
             script.chain();
             script.give_back();
+        }
+    }
+}
+
+/// Clocks, errors, looks and commits: both timers run, each counter counts in turn, and in one
+/// handler two sources of a rank are committed by turns.
+fn bench_added(script: &mut Script, random: &mut Random) {
+    let pair = [random.between(1, 127), random.between(128, 255)];
+    for source in pair {
+        script.store(4 * source, 5);
+        script.store(0x2000 + 4 * source, 1);
+    }
+    for timer in 0..2 {
+        script.set_bound(timer, random.between(2, 9));
+        script.set_control(timer, 1);
+    }
+    for counter in 0..3 {
+        script.set_errors(counter, random.below(6), 0);
+    }
+    script.set_mask(1);
+    script.set_active(pair[0], true);
+    script.take();
+    while !script.full() {
+        for (now, next) in [(pair[0], pair[1]), (pair[1], pair[0])] {
+            script.set_active(now, false);
+            script.set_active(next, true);
+            script.clock();
+            script.error(random.below(3));
+            script.look();
+            script.commit(next);
         }
     }
 }

@@ -24,7 +24,7 @@ usage: reference play < RECORD
        reference compare-compact PLAYER COUNT SEED [ARGUMENT OF PLAYER]...
        reference compare-text CONVERTER COUNT SEED [ARGUMENT OF CONVERTER]...
        reference listing OUTFILE
-       reference bench-record samples|mixed|nested EVENTS OUTFILE";
+       reference bench-record samples|mixed|nested|added EVENTS OUTFILE";
 
 type Failure = Box<dyn std::error::Error>;
 

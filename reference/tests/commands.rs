@@ -326,7 +326,11 @@ fn lay_out_makes_old_records_of_texts() {
     let lines = "sources 4 events 2\n0 5 0 15\n1 7 0 17\nend open 0 level 0 margin 0\n";
     assert_eq!(String::from_utf8(printed).unwrap(), lines);
     // All else is as it was.
-    for text in [&b"4\n50000;0\n"[..], b"1\n70000:0", b"4\n70000:0\ne0000:0"] {
+    for text in [
+        &b"4\n50000;0\n"[..],
+        b"1\n70000:0",
+        b"4\n70000:0\nffff0000:0",
+    ] {
         let output = run(&folder, &["lay-out"], text);
         assert_eq!(output.status.code(), Some(1));
         assert!(output.stdout.is_empty());

@@ -119,7 +119,7 @@ fn played(machine: &Machine, kind: u32, address: u32) -> (Machine, Outcome) {
 
 #[test]
 fn the_kinds_are_12_and_13() {
-    assert_eq!((LOOK, COMMIT, KINDS), (12, 13, 14));
+    assert_eq!((LOOK, COMMIT), (12, 13));
 }
 
 #[test]
@@ -160,9 +160,9 @@ fn reader_and_writer_take_a_look_and_every_number_of_a_commit() {
             (0x000D_0000 | address, 0, None),
             (0x000D_0000 | address, 1, Some((7, 1))),
             (0x000D_0000 | address, 0x8000_0000, Some((7, 1))),
-            (0x000E_0000 | address, 0, Some((6, 1))),
-            (0x000E_0000 | address, 1, Some((6, 1))),
-            (0x000F_0000 | address, 0, Some((6, 1))),
+            (NO_KIND | address, 0, Some((6, 1))),
+            (NO_KIND | address, 1, Some((6, 1))),
+            (NO_KIND + 0x0001_0000 | address, 0, Some((6, 1))),
             (0x010C_0000 | address, 0, Some((6, 1))),
             (0x800D_0000 | address, 0, Some((6, 1))),
         ]);
@@ -231,7 +231,7 @@ fn questions_6_and_7_come_before_17_19_and_26() {
         assert_eq!(machine.act(LOOK, 0, 2), refused(7));
         assert_eq!(machine.act(COMMIT, 0, 2), refused(7));
         assert_eq!(machine.act(COMMIT, 2, 2), refused(7));
-        for kind in [14, 15, 16, 0x10C, 0x10D, 0x800D, 0xFFFF] {
+        for kind in [KINDS, KINDS + 1, KINDS + 2, 0x10C, 0x10D, 0x800D, 0xFFFF] {
             assert_eq!(machine.act(kind, 0, 0), refused(6));
             assert_eq!(machine.act(kind, 2, 0), refused(6));
             assert_eq!(machine.act(kind, 2, 2), refused(6));
@@ -1134,7 +1134,7 @@ end open 0 level 0 margin -5
         assert_eq!(refused(0x000C_0002, 0), "refused 7 at 1\n");
         assert_eq!(refused(0x000C_0000, 2), "refused 7 at 1\n");
         assert_eq!(refused(0x000D_0002, 2), "refused 7 at 1\n");
-        assert_eq!(refused(0x000E_0002, 0), "refused 6 at 1\n");
+        assert_eq!(refused(NO_KIND | 2, 0), "refused 6 at 1\n");
     }
 }
 
@@ -1405,8 +1405,8 @@ fn some_of_the_family_are_refused_for_unused_parts_or_a_kind_above() {
                     (7, COMMIT, 0) if value => "7, a commit of 0",
                     (7, COMMIT, 1..=255) if value => "7, a commit",
                     (7, COMMIT, 256..) if value => "7, a commit of more",
-                    (6, 14, _) => "6, kind 14",
-                    (6, 15.., _) => "6, a kind above",
+                    (6, KINDS, _) => "6, the kind after the last",
+                    (6, _, _) => "6, a kind above",
                     _ => panic!("{number} at {event}"),
                 };
                 met.count(name);

@@ -1,6 +1,6 @@
 //! The compact player: its limits, the order of its questions, and what it shares with the big one.
 
-use reference::event::Event;
+use reference::event::{Event, NO_KIND};
 use reference::generate::{generate, FAMILIES};
 use reference::player::{play, print, Tally};
 use reference::random::Random;
@@ -8,7 +8,7 @@ use reference::record::{self, lay_out, Limits, Refusal, BOARD, COMPACT};
 use std::collections::BTreeMap;
 
 /// Fails question 6.
-const UNKNOWN: (u32, u32) = (0x000E_0001, 1);
+const UNKNOWN: (u32, u32) = (NO_KIND | 1, 1);
 /// Fails question 7.
 const UNUSED: (u32, u32) = (0x0005_0000, 1);
 

@@ -288,16 +288,16 @@ fn questions_8_6_and_7_come_before_25() {
     for address in [0, 1, 2, 3, 4, 0x7F0, 0xFFFF] {
         for value in [1, 2, 0x8000_0000, u32::MAX] {
             assert_eq!(machine.act(ERROR, address, value), refused(7));
-            assert_eq!(machine.act(14, address, value), refused(6));
+            assert_eq!(machine.act(KINDS, address, value), refused(6));
             assert_eq!(machine.act(0x10B, address, value), refused(6));
         }
-        assert_eq!(machine.act(14, address, 0), refused(6));
+        assert_eq!(machine.act(KINDS, address, 0), refused(6));
     }
     assert_eq!(machine.error(3), refused(25));
     machine.error_counters[0].threshold = 27;
     for (address, value) in [(0, 0), (3, 0), (0, 1), (3, 1)] {
         assert_eq!(machine.act(ERROR, address, value), refused(8));
-        assert_eq!(machine.act(14, address, value), refused(8));
+        assert_eq!(machine.act(KINDS, address, value), refused(8));
     }
 }
 
@@ -396,7 +396,7 @@ fn other_events_leave_the_counters() {
     machine.give_back();
     machine.error(3);
     machine.act(ERROR, 0, 1);
-    machine.act(14, 0, 0);
+    machine.act(KINDS, 0, 0);
     assert_eq!(machine.handlers.len(), 0);
     assert_eq!(machine.error_counters, counters);
 }
@@ -444,8 +444,8 @@ fn reader_and_writer_take_every_address_of_an_error() {
             (0x000B_0000 | address, 0, None),
             (0x000B_0000 | address, 1, Some((7, 1))),
             (0x000B_0000 | address, 0x8000_0000, Some((7, 1))),
-            (0x000E_0000 | address, 0, Some((6, 1))),
-            (0x000E_0000 | address, 1, Some((6, 1))),
+            (NO_KIND | address, 0, Some((6, 1))),
+            (NO_KIND | address, 1, Some((6, 1))),
             (0x010B_0000 | address, 0, Some((6, 1))),
         ] {
             let events = [(0x000B_0002, 0), (head, value)];
@@ -496,7 +496,7 @@ end open 0 level 0 margin 0
         assert_eq!(print(&laid_out(2, &events), limits), text);
         let bad = laid_out(2, &[(0x000B_0003, 0), (0x000B_0003, 1)]);
         assert_eq!(print(&bad, limits), "refused 7 at 1\n");
-        let bad = laid_out(2, &[(0x000B_0003, 0), (0x000E_0000, 0)]);
+        let bad = laid_out(2, &[(0x000B_0003, 0), (NO_KIND, 0)]);
         assert_eq!(print(&bad, limits), "refused 6 at 1\n");
     }
 }
@@ -786,8 +786,8 @@ fn some_of_the_family_are_refused_for_a_value_or_a_kind_above() {
                     (7, ERROR, 0..=2) => "7, a counter",
                     (7, ERROR, 3) => "7, address 3",
                     (7, ERROR, _) => "7, another address",
-                    (6, 14, _) => "6, kind 14",
-                    (6, 15.., _) => "6, a kind above",
+                    (6, KINDS, _) => "6, the kind after the last",
+                    (6, _, _) => "6, a kind above",
                     _ => panic!("{number} at {event}"),
                 };
                 met.count(name.to_string());
@@ -797,7 +797,7 @@ fn some_of_the_family_are_refused_for_a_value_or_a_kind_above() {
             "7, a counter",
             "7, address 3",
             "7, another address",
-            "6, kind 14",
+            "6, the kind after the last",
             "6, a kind above",
         ] {
             met.at_least(10, name);

@@ -3,7 +3,7 @@
 mod common;
 
 use common::*;
-use reference::event::{CHAIN, CLOCK, COMMIT, LOOK};
+use reference::event::{CHAIN, CLOCK, COMMIT, KINDS, LOOK, NO_KIND};
 use reference::machine::*;
 use reference::rank::{Field, Rank};
 use reference::record::{self, lay_out, Refusal, BOARD};
@@ -73,10 +73,10 @@ fn records_1_to_5() {
 fn records_6_and_7_with_their_places() {
     let good = 0x0005_0000;
     for (head, value, number) in [
-        (0x000E_0000, 0, 6),
-        (0x000E_0001, 1, 6),
-        (0x000F_0000, 0, 6),
-        (0x0010_0000, 0, 6),
+        (NO_KIND, 0, 6),
+        (NO_KIND | 1, 1, 6),
+        (NO_KIND + 0x0001_0000, 0, 6),
+        (NO_KIND + 0x0002_0000, 0, 6),
         (0xFFFF_0000, 0, 6),
         (0x0001_0000, 1, 7),
         (0x0003_0000, 1, 7),
@@ -103,7 +103,7 @@ fn records_6_and_7_with_their_places() {
         (0x000D_0000, 1, 7),
         (0x000D_0001, 1, 7),
         (0x000D_FFFF, 0x8000_0000, 7),
-        (0x000E_0003, 1, 6),
+        (NO_KIND | 3, 1, 6),
     ] {
         let (heads, values) = ([good, head, 0xFFFF_0000], [0, value, 1]);
         assert_eq!(reading(&lay_out(3, 2, &heads, &values)), Some((number, 1)));
@@ -168,7 +168,7 @@ fn event_8_comes_first() {
         assert_eq!(machine.commit(0), refused(8));
         assert_eq!(machine.act(LOOK, 1, 0), refused(8));
         assert_eq!(machine.act(COMMIT, 1, 1), refused(8));
-        assert_eq!(machine.act(14, 0, 0), refused(8));
+        assert_eq!(machine.act(KINDS, 0, 0), refused(8));
         assert_eq!(machine.query_margin(), Err(8));
     }
     let mut unmasked = taken();

@@ -1,7 +1,7 @@
 //! The rules of the text form, and generated texts.
 
 use reference::compare_text::{sort, SORTS};
-use reference::event::{Event, CHAIN};
+use reference::event::{Event, CHAIN, NO_KIND};
 use reference::generate;
 use reference::random::Random;
 use reference::record::{self, lay_out, listing, write_record, Record, Refusal, BOARD};
@@ -215,19 +215,20 @@ fn questions_name_the_place_and_the_line() {
     for sources in ["0", "1", "00", "001", "256", "999"] {
         refused(format!("{sources}\n0:0\n").as_bytes(), &two(1));
     }
-    refused(b"# four\n\n1\nf0000:0\n", &two(3));
+    refused(b"# four\n\n1\nffff0000:0\n", &two(3));
     let six = |place, line| format!("refused 6 at {place} (line {line}): the kind is not 0 to 13");
     accepted(b"4\na0000:0\n", 4, &[(0x000A_0000, 0)]);
     accepted(b"4\nb0003:0\n", 4, &[(0x000B_0003, 0)]);
     accepted(b"4\nc0000:0\n", 4, &[(0x000C_0000, 0)]);
     accepted(b"4\nd0105:0\n", 4, &[(0x000D_0105, 0)]);
-    refused(b"4\ne0000:0\n", &six(0, 2));
-    refused(b"4\nf0000:0\n", &six(0, 2));
+    for head in [NO_KIND, NO_KIND + 0x0001_0000] {
+        refused(format!("4\n{head:x}:0\n").as_bytes(), &six(0, 2));
+    }
     refused(b"4\n0:0\n\n# unknown\nffff0001:1\n50000:1\n", &six(1, 5));
     let words = "an address or a value that the kind does not use is not 0";
     let seven = |place, line| format!("refused 7 at {place} (line {line}): {words}");
     refused(b"4\n50000:1\n", &seven(0, 2));
-    refused(b"4\r\n0:0\r\n\r\n90001:1\r\ne0000:0\r\n", &seven(1, 4));
+    refused(b"4\r\n0:0\r\n\r\n90001:1\r\nffff0000:0\r\n", &seven(1, 4));
     refused(b"4\na0001:0\n", &seven(0, 2));
     refused(b"4\n0:0\na0000:1\n", &seven(1, 3));
     refused(b"4\nb0003:1\n", &seven(0, 2));

@@ -306,7 +306,7 @@ fn other_events_leave_the_timers() {
     machine.give_back();
     machine.set_mask(0);
     machine.give_back();
-    machine.act(14, 0, 0);
+    machine.act(KINDS, 0, 0);
     assert_eq!(machine.handlers.len(), 0);
     assert_eq!(machine.timers, timers);
 }

@@ -12,7 +12,8 @@ use Rattle.pic.specs.declared.Outcome.{Outcome}
 use Rattle.pic.specs.declared.Look.{Look}
 use Rattle.pic.specs.Fields.{withScalars, withClaim, withClaimed, withCurrent}
 use Rattle.pic.specs.Sources.{thresholdOf, currentOf, winnerOf, marginOf}
-use Rattle.pic.specs.Sound.{initial, isCount}
+use Rattle.source_count.specs.Count.{isCount}
+use Rattle.pic.specs.Sound.{initial}
 
 -- The controller accepts an event: it hands back a controller and an answer, with no refusal.
 abbrev pub accepts : Controller → ℕ → Outcome

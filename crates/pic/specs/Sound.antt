@@ -24,10 +24,6 @@ initial n =
       scalars = record { priord = 0; base = 0; claim = 0; threshold = field 0; claimed = field 0; current = field 0 };
     }
 
--- N, the number of sources, 2..255.
-abbrev pub isCount : ℕ → Bool
-isCount n = leb 2 n && leb n 255
-
 -- Field, enable, type, polarity, line and latch for every source: each array has a place for it.
 abbrev pub placeTests : Controller → List Bool
 placeTests c =

@@ -7,6 +7,7 @@ use crate::Controller;
 use crate::Outcome;
 use crate::Scalars;
 use pic_source::Field;
+use source_count::is_count;
 
 // Whether the values of a source are sound.
 fn source_sound(field: Field, enable: u8, trigger: u8, polarity: u8, line: u8, latch: u8) -> bool
@@ -50,7 +51,7 @@ impl Controller {
     pub fn power_on(n: u32) -> Outcome
         ensures { λ r. ⌜ r ≡ powerOnOf n ⌝ }
     {
-        if (2 <= n) & (n <= 255) {
+        if is_count(n) {
             Outcome {
                 controller: with_sources(n as u8),
                 answer: 0,

@@ -17,7 +17,8 @@ use Rattle.pic_csrs.specs.declared.Csr.the-variants.{Meivt, Meipt, Meicpct, Mei
 use Rattle.pic.specs.Fields.{withScalars}
 use Rattle.pic_source.specs.Ranks.{fieldOf, rankOf}
 use Rattle.pic.specs.Sources.{currentOf, winnerOf}
-use Rattle.pic.specs.Sound.{initial, isCount, soundOf}
+use Rattle.source_count.specs.Count.{isCount}
+use Rattle.pic.specs.Sound.{initial, soundOf}
 use Rattle.pic.specs.Calls.{accepts, refuses, asks, powerOnOf, sourceCount, priorityOrder, currentRank, setCurrent, captureOf, lookOf}
 use Rattle.pic_registers.specs.Registers.{sampled, readOf, writtenOf}
 use Rattle.pic_registers.specs.Offsets.{offsetOf, registerAt, offsetRefusal}

@@ -9,7 +9,8 @@ use borrow.Author.Tests.{leb-true}
 use Rattle.pic_source.specs.Ranks.{field, mirror, rankOf}
 use Rattle.pic.specs.declared.Controller.{Controller}
 use Rattle.pic.specs.Sources.{fieldAt}
-use Rattle.pic.specs.Sound.{initial, isCount, soundOf}
+use Rattle.source_count.specs.Count.{isCount}
+use Rattle.pic.specs.Sound.{initial, soundOf}
 use Rattle.pic.specs.Calls.{accepts, refuses, asks, powerOnOf, sourceCount, priorityOrder, currentRank}
 use Rattle.pic_laws.specs.Orders.{ordered, Turned, AllRanks}
 use Rattle.pic_registers.specs.Offsets.{registerAt, pageRegister, offsetRefusal}

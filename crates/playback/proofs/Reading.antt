@@ -14,7 +14,8 @@ use Rattle.record.specs.declared.Limits.{Limits}
 use Rattle.record.specs.declared.Verdict.{Verdict}
 use Rattle.record.specs.declared.ReadAnswer.{ReadAnswer}
 use Rattle.record.specs.declared.ReadAnswer.the-variants as reading
-use Rattle.record.specs.Record.{mostSources, mostEvents, lengthOf, countOf, sourcesOf, headsOf, valuesOf}
+use Rattle.source_count.specs.Count.{mostSources}
+use Rattle.record.specs.Record.{mostEvents, lengthOf, countOf, sourcesOf, headsOf, valuesOf}
 use Rattle.record.specs.Questions.{readVerdict, verdictWithin}
 use Rattle.record.proofs.Questions.{readable}
 use Rattle.record.specs.Answers.{allYes, readNumbers, readAnswer, readHeads, readValues}

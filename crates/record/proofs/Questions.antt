@@ -8,11 +8,16 @@ use borrow.Author.Tests.{leb-true, eqb-true, le-leb, lt-leb, eq-eqb, ne-eqb, not
 use lib.Dec.{lit<, leb, eqb}
 use lib.ListN.{length}
 use Rattle.event.specs.Event.{shapeOf}
+use Rattle.source_count.specs.Count.{mostSources, isCount}
 use Rattle.record.specs.declared.Limits.{Limits}
 use Rattle.record.specs.declared.Verdict.{Verdict}
-use Rattle.record.specs.Record.{countOf, sourcesOf, headsOf, valuesOf, wordsFrom, lengthOf, mostSources, mostEvents}
-use Rattle.record.specs.Questions.{verdict, noRefusal, question, sourcesInRange, sourcesTaken, countInRange, countTaken, arraysHold, writeShapeOf, walk, readVerdict, verdictWithin, writeVerdict}
+use Rattle.record.specs.Record.{countOf, sourcesOf, headsOf, valuesOf, wordsFrom, lengthOf, mostEvents}
+use Rattle.record.specs.Questions.{verdict, noRefusal, question, sourcesTaken, countInRange, countTaken, arraysHold, writeShapeOf, walk, readVerdict, verdictWithin, writeVerdict}
 use Rattle.record.proofs.Walk.{walk-first}
+
+-- What the code asks of a call's answer, asked of the rule that gives it.
+pub answered-no : {r t u : Bool} → r ≡ t → not r ≡ u → not t ≡ u
+answered-no e h = ap not (sym e) ∙ h
 
 -- Questions 2, 22, 3 and 23 by their answers, and then others.
 abbrev fourThen : Bool → Bool → Bool → Bool → Verdict → Verdict
@@ -20,27 +25,27 @@ fourThen two q22 three q23 next = question 2 two (question 22 q22 (question 3 th
 
 -- The same of N and n.
 abbrev pub sizesThen : Limits → ℕ → ℕ → Verdict → Verdict
-sizesThen limits s n = fourThen (sourcesInRange s) (sourcesTaken limits s) (countInRange n) (countTaken limits n)
+sizesThen limits s n = fourThen (isCount s) (sourcesTaken limits s) (countInRange n) (countTaken limits n)
 
 -- The number of each no of these, given the answers before it as the code has them.
 module _ (limits : Limits) (s n : ℕ) where
-  pub sizes-no-2 : not (sourcesInRange s) ≡ true → 2 ≡ sizesThen limits s n noRefusal .refusal
-  sizes-no-2 h = rw (not-true (sourcesInRange s) h)
+  pub sizes-no-2 : not (isCount s) ≡ true → 2 ≡ sizesThen limits s n noRefusal .refusal
+  sizes-no-2 h = rw (not-true (isCount s) h)
 
-  module _ (q2 : not (sourcesInRange s) ≡ false) where
+  module _ (q2 : not (isCount s) ≡ false) where
     pub sizes-no-22 : limits .sources < s → 22 ≡ sizesThen limits s n noRefusal .refusal
-    sizes-no-22 h = rw (not-false (sourcesInRange s) q2, lt-leb _ _ h)
+    sizes-no-22 h = rw (not-false (isCount s) q2, lt-leb _ _ h)
 
     module _ (q22 : s ≤ limits .sources) where
       pub sizes-no-3 : mostEvents < n → 3 ≡ sizesThen limits s n noRefusal .refusal
-      sizes-no-3 h = rw (not-false (sourcesInRange s) q2, le-leb _ _ q22, lt-leb _ _ h)
+      sizes-no-3 h = rw (not-false (isCount s) q2, le-leb _ _ q22, lt-leb _ _ h)
 
       module _ (q3 : n ≤ mostEvents) where
         pub sizes-no-23 : limits .events < n → 23 ≡ sizesThen limits s n noRefusal .refusal
-        sizes-no-23 h = rw (not-false (sourcesInRange s) q2, le-leb _ _ q22, le-leb _ _ q3, lt-leb _ _ h)
+        sizes-no-23 h = rw (not-false (isCount s) q2, le-leb _ _ q22, le-leb _ _ q3, lt-leb _ _ h)
 
         pub sizes-none : n ≤ limits .events → 0 ≡ sizesThen limits s n noRefusal .refusal
-        sizes-none h = rw (not-false (sourcesInRange s) q2, le-leb _ _ q22, le-leb _ _ q3, le-leb _ _ h)
+        sizes-none h = rw (not-false (isCount s) q2, le-leb _ _ q22, le-leb _ _ q3, le-leb _ _ h)
 
 -- The first no decides, with place 0; where there is none, the others do.
 module _ (next : Verdict) where
@@ -69,11 +74,11 @@ module _ (limits : Limits) (bytes : List ℕ) (hp vp : ℕ) where
     unfolding readVerdict
     read-no-sizes h =
         rw (le-leb _ _ q1, ← en, ← es, e)
-        (four-no _ (sourcesInRange s) (sourcesTaken limits s) (countInRange n) (countTaken limits n) (λ z. h (e ∙ z)))
+        (four-no _ (isCount s) (sourcesTaken limits s) (countInRange n) (countTaken limits n) (λ z. h (e ∙ z)))
 
     module _ (yes : number ≡ 0) where
       others : (next : Verdict) → next ≡ sizesThen limits s n next
-      others next = four-yes next (sourcesInRange s) (sourcesTaken limits s) (countInRange n) (countTaken limits n) (sym e ∙ yes)
+      others next = four-yes next (isCount s) (sourcesTaken limits s) (countInRange n) (countTaken limits n) (sym e ∙ yes)
 
       pub read-no-4 : (length bytes ≡ lengthOf n → ⊥) → verdict 4 0 ≡ readVerdict limits bytes hp vp
       unfolding readVerdict
@@ -105,7 +110,7 @@ sizes-few limits s n h =
     let q23 : Verdict = question 23 (countTaken limits n) noRefusal in
     let q3 : Verdict = question 3 (countInRange n) q23 in
     let q22 : Verdict = question 22 (sourcesTaken limits s) q3 in
-    let yes-2 = question-yes 1 (sourcesInRange s) q22 h in
+    let yes-2 = question-yes 1 (isCount s) q22 h in
     let yes-22 = question-yes 21 (sourcesTaken limits s) q3 (yes-2 .1) in
     leb-true n mostEvents (question-yes 2 (countInRange n) q23 (yes-22 .1) .0)
 
@@ -196,7 +201,7 @@ module _ (sources : ℕ) (heads values : List ℕ) (space : ℕ) where
   pub write-place : 6 ≤ writeVerdict sources heads values space .refusal → writeVerdict sources heads values space .place < length heads
   unfolding writeVerdict
   write-place =
-      later (length heads) 2 (sourcesInRange sources) from-3 (lit< tt) (λ two.
+      later (length heads) 2 (isCount sources) from-3 (lit< tt) (λ two.
       later (length heads) 3 (countInRange (length heads)) from-4 (lit< tt) (λ three.
       later (length heads) 4 (eqb (length heads) (length values)) from-5 (lit< tt) (λ four.
       later (length heads) 5 (leb (lengthOf (length heads)) space) (walk writeShapeOf heads values) (lit< tt) (λ five. walk-place heads values (eqb-true _ _ four)))))

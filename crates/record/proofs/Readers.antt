@@ -8,9 +8,10 @@ use native.Mathlib.Omega.{arith}
 use lib.Dec.{leb, eqb}
 use lib.ListN.{length}
 use Rattle.event.specs.Event.{shapeOf}
+use Rattle.source_count.specs.Count.{mostSources}
 use Rattle.record.specs.declared.Limits.{Limits}
 use Rattle.record.specs.declared.Verdict.{Verdict}
-use Rattle.record.specs.Record.{board, compact, mostSources, mostEvents, countOf, sourcesOf, headsOf, valuesOf, lengthOf}
+use Rattle.record.specs.Record.{board, compact, mostEvents, countOf, sourcesOf, headsOf, valuesOf, lengthOf}
 use Rattle.record.specs.Questions.{verdict, question, holdsSizes, sourcesTaken, countInRange, countTaken, arraysHold, walk, readVerdict, verdictWithin, boardVerdict}
 use Rattle.record.specs.Answers.{allYes}
 use Rattle.record.specs.Readers.{scopeVerdict, Beside}

@@ -8,11 +8,12 @@ use borrow.Author.Tests.{leb-true, le-leb, ne-eqb}
 use lib.Dec.{eqb}
 use lib.ListN.{length, getD, take}
 use lib.Seq.{getD-take, length-take-le}
+use Rattle.source_count.specs.Count.{isCount}
 use Rattle.record.specs.declared.Limits.{Limits}
 use Rattle.record.specs.declared.Verdict.{Verdict}
 use Rattle.record.specs.Words.{wordsOf}
 use Rattle.record.specs.Record.{countOf, sourcesOf, lengthOf}
-use Rattle.record.specs.Questions.{verdict, question, sourcesInRange, sourcesTaken, countInRange, countTaken, readVerdict}
+use Rattle.record.specs.Questions.{verdict, question, sourcesTaken, countInRange, countTaken, readVerdict}
 use Rattle.record.proofs.Words.{word-at}
 use Rattle.record.proofs.Questions.{sizesThen, readable}
 
@@ -50,7 +51,7 @@ too-long limits bytes hp vp h =
     let s : ℕ = sourcesOf bytes in
     let n : ℕ = countOf bytes in
     rw (le-leb 8 (length bytes) eight)
-    (ap (λ (v : Verdict). question 2 (sourcesInRange s) (question 22 (sourcesTaken limits s) (question 3 (countInRange n) v))) (too-many limits n (length bytes) _ h))
+    (ap (λ (v : Verdict). question 2 (isCount s) (question 22 (sourcesTaken limits s) (question 3 (countInRange n) v))) (too-many limits n (length bytes) _ h))
 
 -- So a program that reads more bytes than any such record has needs to read no further.
 pub read-cut : (limits : Limits) (bytes : List ℕ) (m headPlaces valuePlaces : ℕ) → lengthOf (limits .events) < m → m ≤ length bytes

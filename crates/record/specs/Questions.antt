@@ -4,11 +4,12 @@ use mathlib.Core.Bool.{Bool, _&&_, cond}
 use mathlib.Core.List.{List, [], _∷_}
 use lib.ListN.{length}
 use lib.Dec.{leb, eqb}
+use Rattle.source_count.specs.Count.{isCount}
 use Rattle.event.specs.Kinds as kind
 use Rattle.event.specs.Event.{kindOf, isKind, shapeOf}
 use Rattle.record.specs.declared.Limits.{Limits}
 use Rattle.record.specs.declared.Verdict.{Verdict}
-use Rattle.record.specs.Record.{countOf, sourcesOf, headsOf, valuesOf, lengthOf, board, compact, mostSources, mostEvents}
+use Rattle.record.specs.Record.{countOf, sourcesOf, headsOf, valuesOf, lengthOf, board, compact, mostEvents}
 
 -- The number of the question that was answered no, and the place.
 abbrev pub verdict : ℕ → ℕ → Verdict
@@ -25,10 +26,6 @@ question number answer next = cond answer next (verdict number 0)
 -- 1. Reading: is it at least 8 bytes?
 abbrev pub holdsSizes : List ℕ → Bool
 holdsSizes bytes = leb 8 (length bytes)
-
--- 2. Is N in 2..255?
-abbrev pub sourcesInRange : ℕ → Bool
-sourcesInRange sources = leb 2 sources && leb sources mostSources
 
 -- 22. Is N at most 63? With the limits of another reader: is it at most what that reader takes?
 abbrev pub sourcesTaken : Limits → ℕ → Bool
@@ -70,7 +67,7 @@ walk check = walkFrom check 0
 unfoldable pub readVerdict : Limits → List ℕ → ℕ → ℕ → Verdict
 readVerdict limits bytes headPlaces valuePlaces =
     question 1 (holdsSizes bytes)
-    (question 2 (sourcesInRange (sourcesOf bytes))
+    (question 2 (isCount (sourcesOf bytes))
     (question 22 (sourcesTaken limits (sourcesOf bytes))
     (question 3 (countInRange (countOf bytes))
     (question 23 (countTaken limits (countOf bytes))
@@ -91,7 +88,7 @@ compactVerdict = verdictWithin compact
 -- Questions 2 to 7, writing: 4 is whether heads and values are equally many (n is the heads); 27 is asked after question 6 at an event.
 unfoldable pub writeVerdict : ℕ → List ℕ → List ℕ → ℕ → Verdict
 writeVerdict sources heads values space =
-    question 2 (sourcesInRange sources)
+    question 2 (isCount sources)
     (question 3 (countInRange (length heads))
     (question 4 (eqb (length heads) (length values))
     (question 5 (leb (lengthOf (length heads)) space)

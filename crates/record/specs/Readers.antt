@@ -6,17 +6,18 @@ use mathlib.Core.List.{List}
 use lib.ListN.{length}
 use lib.Dec.{eqb}
 use Rattle.event.specs.Event.{shapeOf}
+use Rattle.source_count.specs.Count.{isCount}
 use Rattle.record.specs.declared.Limits.{Limits}
 use Rattle.record.specs.declared.Verdict.{Verdict}
 use Rattle.record.specs.Record.{countOf, sourcesOf, headsOf, valuesOf, lengthOf}
-use Rattle.record.specs.Questions.{verdict, question, holdsSizes, sourcesInRange, sourcesTaken, countInRange, countTaken, arraysHold, walk}
+use Rattle.record.specs.Questions.{verdict, question, holdsSizes, sourcesTaken, countInRange, countTaken, arraysHold, walk}
 use Rattle.record.specs.Answers.{allYes}
 
 -- "The big player keeps 255 and 4,000": its reader asks 01's questions, and no others.
 abbrev pub scopeVerdict : List ℕ → ℕ → ℕ → Verdict
 scopeVerdict bytes headPlaces valuePlaces =
     question 1 (holdsSizes bytes)
-    (question 2 (sourcesInRange (sourcesOf bytes))
+    (question 2 (isCount (sourcesOf bytes))
     (question 3 (countInRange (countOf bytes))
     (question 4 (eqb (length bytes) (lengthOf (countOf bytes)))
     (question 5 (arraysHold (countOf bytes) headPlaces valuePlaces)
@@ -24,12 +25,12 @@ scopeVerdict bytes headPlaces valuePlaces =
 
 -- "22 when the van's reader meets N above 63, after question 2":
 abbrev pub meets22 : Limits → List ℕ → Bool
-meets22 limits bytes = holdsSizes bytes && sourcesInRange (sourcesOf bytes) && not (sourcesTaken limits (sourcesOf bytes))
+meets22 limits bytes = holdsSizes bytes && isCount (sourcesOf bytes) && not (sourcesTaken limits (sourcesOf bytes))
 
 -- "23 when it meets n above 500, after question 3":
 abbrev pub meets23 : Limits → List ℕ → Bool
 meets23 limits bytes =
-    holdsSizes bytes && sourcesInRange (sourcesOf bytes) && sourcesTaken limits (sourcesOf bytes) && countInRange (countOf bytes) && not (countTaken limits (countOf bytes))
+    holdsSizes bytes && isCount (sourcesOf bytes) && sourcesTaken limits (sourcesOf bytes) && countInRange (countOf bytes) && not (countTaken limits (countOf bytes))
 
 -- The verdicts of a reader with limits and of the big one, on the same bytes.
 pub record Beside (limits : Limits) (bytes : List ℕ) (own big : Verdict) : Type 0 where

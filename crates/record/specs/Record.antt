@@ -2,12 +2,9 @@
 use Prim.Native.Nat.{ℕ, _+_, _*_}
 use mathlib.Core.List.{List, _∷_, _++_}
 use lib.ListN.{length, getD, take, drop}
+use Rattle.source_count.specs.Count.{mostSources}
 use Rattle.record.specs.declared.Limits.{Limits}
 use Rattle.record.specs.Words.{wordsOf, bytesOfWords}
-
--- N in 2..255.
-abbrev pub mostSources : ℕ
-mostSources = 255
 
 -- n at most 4,000.
 abbrev pub mostEvents : ℕ

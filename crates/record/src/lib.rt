@@ -5,13 +5,13 @@ ghost use Prim.Native.Nat.{_+_, _*_, _≤_};
 ghost use lib.ListN.{length, getD};
 ghost use Rattle.buffers.specs.Filled.{filled};
 ghost use Rattle.event.specs.Event.{shapeOf};
+ghost use Rattle.source_count.specs.Count.{isCount};
 ghost use Rattle.record.specs.Words.{wordOf, wordsOf};
 ghost use Rattle.record.specs.Record.{board, compact, wordsFrom, lengthOf};
-ghost use Rattle.record.specs.Questions.{noRefusal, question, sourcesInRange, sourcesTaken, countInRange, countTaken, walk, readVerdict};
+ghost use Rattle.record.specs.Questions.{noRefusal, question, sourcesTaken, countInRange, countTaken, walk, readVerdict};
 ghost use Rattle.record.specs.Answers.{readNumbers, readAnswer, readHeads, readValues};
-
-// The greatest N.
-pub const MOST_SOURCES: u32 = 255;
+use source_count::MOST_SOURCES;
+use source_count::is_count;
 
 // The most events.
 pub const MOST_EVENTS: usize = 4000;
@@ -117,10 +117,10 @@ fn walk_bytes(bytes: &[u8], n: usize) -> Verdict
 
 // Questions 2, 22, 3 and 23 of N and n: the number of the first that is answered no, or 0.
 fn ask_sizes(limits: Limits, sources: u32, count: u32) -> u8
-    ensures { λ r. ⌜ r ≡ (question 2 (sourcesInRange sources) (question 22 (sourcesTaken limits sources)
+    ensures { λ r. ⌜ r ≡ (question 2 (isCount sources) (question 22 (sourcesTaken limits sources)
         (question 3 (countInRange count) (question 23 (countTaken limits count) noRefusal)))) .refusal ⌝ }
 {
-    if !((2 <= sources) & (sources <= MOST_SOURCES)) {
+    if !is_count(sources) {
         return 2;
     }
     if limits.sources < sources {

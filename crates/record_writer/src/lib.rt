@@ -10,7 +10,6 @@ ghost use Rattle.record.specs.Record.{recordOf, lengthOf};
 ghost use Rattle.record.specs.Questions.{writeShapeOf, walk, writeVerdict};
 ghost use Rattle.record.specs.Answers.{writeNumbers, writeAnswer, writtenBytes};
 use record::MOST_EVENTS;
-use record::MOST_SOURCES;
 use record::Verdict;
 use record::WriteAnswer;
 
@@ -91,7 +90,7 @@ fn walk_arrays(heads: &[u32], values: &[u32]) -> Verdict
 fn ask_writing(sources: u32, heads: &[u32], values: &[u32], space: usize) -> Verdict
     ensures { λ r. ⌜ r ≡ writeVerdict sources (now (heads .entry)) (now (values .entry)) space ⌝ }
 {
-    if !((2 <= sources) & (sources <= MOST_SOURCES)) {
+    if !source_count::is_count(sources) {
         return Verdict {
             refusal: 2,
             place: 0,

@@ -1,7 +1,7 @@
-use mathlib.Core.Path.{_≡_}
-use mathlib.Core.Bool.{true, false}
+use mathlib.Core.Path.{_≡_, sym, _∙_}
+use mathlib.Core.Bool.{true}
 use native.Mathlib.Omega.{arith}
-use Rattle.pic.specs.Sound.{isCount}
+use Rattle.source_count.specs.Count.{mostSources, isCount}
 use Rattle.pic.specs.Calls.{powerOnOf}
 use Rattle.pic_source.proofs.Bools.{and-parts}
 use borrow.Author.Tests.{leb-true}
@@ -10,10 +10,14 @@ use borrow.Author.Needs.{needs}
 use Rattle.pic.proofs.Controller.power_on.Statement.{statement}
 use Rattle.pic.proofs.Controller.power_on.Tie as tie
 
+is-count-requires : tie.Need-is-count-requires
+is-count-requires c κs = search needs
+
 cast-with-sources : tie.Need-cast-with-sources
 cast-with-sources c =
-    let e : isCount (c .before .args .n) ≡ true = c .if1 .taken in
-    let q = leb-true (c .before .args .n) 255 (and-parts (leb 2 (c .before .args .n)) (leb (c .before .args .n) 255) e .1) in
+    let n = c .before .before .args .n in
+    let e : isCount n ≡ true = sym (c .before .is-count .ensures) ∙ c .if1 .taken in
+    let q = leb-true n mostSources (and-parts (leb 2 n) (leb n mostSources) e .1) in
     record { fits = omega arith }
 
 with-sources-requires : tie.Need-with-sources-requires
@@ -24,13 +28,13 @@ with-sources-requires-2 c κs = search needs
 
 returns : tie.Need-returns
 unfolding powerOnOf
-returns c = let e : isCount (c .before .before .args .n) ≡ true = c .before .if1 .taken in rw (e, c .with-sources .ensures)
+returns c = rw (sym (c .before .before .is-count .ensures) ∙ c .before .if1 .taken, c .with-sources .ensures)
 
 returns-2 : tie.Need-returns-2
 unfolding powerOnOf
-returns-2 c = let e : isCount (c .before .before .args .n) ≡ false = c .before .if1 .left in rw (e, c .with-sources2 .ensures)
+returns-2 c = rw (sym (c .before .before .is-count .ensures) ∙ c .before .if1 .left, c .with-sources2 .ensures)
 
 pub power-on-spec : {M : Type 1} → statement M
 power-on-spec =
     tie.close
-    (tie.spec cast-with-sources with-sources-requires with-sources-requires-2 returns returns-2)
+    (tie.spec is-count-requires cast-with-sources with-sources-requires with-sources-requires-2 returns returns-2)

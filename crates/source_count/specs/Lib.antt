@@ -1,0 +1,2 @@
+-- The number of sources.
+pub mod Count
