@@ -27,8 +27,8 @@ use Rattle.counters.specs.Whole as whole
 use Rattle.counters.specs.Csrs as counters
 use Rattle.nesting.specs.Claim.{isOther, Does, Pushed, Swapped, Laws}
 use Rattle.nesting.specs.Held.{held}
-use Rattle.nesting.proofs.Held.{held-push, held-pop, held-swap, held-mark, held-top}
-use Rattle.nesting.proofs.Nesting.{nesting}
+use Rattle.nesting.proofs.Held.{held-push, held-pop, held-swap, held-mark, held-length, held-top}
+use Rattle.nesting.proofs.Nesting.{trace-words, end-sound, nesting}
 use Rattle.handlers.specs.declared.Machine.{Machine}
 use Rattle.handlers.specs.declared.Outcome.{Outcome}
 use Rattle.handlers.specs.Fields.{withCounters}
@@ -41,7 +41,7 @@ use Rattle.handlers.specs.Calls.{stepOf}
 use Rattle.handlers_laws.proofs.Facts.{facts, Sound, saved-small, room, served-facts}
 use Rattle.handlers_laws.proofs.Cases.{step-cases}
 use Rattle.handlers_laws.proofs.Kept.{Ready, step-ready, power-on-ready, power-on-empty, top-current, one-more}
-use Rattle.claims.specs.Nested.{word, answerOf, acceptedClass, classBy, seen, Won, eh1, Demand3}
+use Rattle.claims.specs.Nested.{word, answerOf, acceptedClass, classBy, seen, Won, eh1, lastOf, Demand3}
 
 -- A served winner above the threshold is the one to serve.
 won : (c : Controller) (k : Look) → Found c k → thresholdOf (c .scalars) .0 < k .winner .rank .0 → Won c (k .winner .source)
@@ -177,8 +177,17 @@ eh1-laws =
       below-height = λ a b p q l. l;
     }
 
+-- As many handlers are open as the depth says.
+open-is-depth : (m : Machine) → eh1 .Sound m → m .service .depth ≡ length (eh1 .stack m)
+open-is-depth m s = sym (held-length seen (m .service .stack) (m .service .depth) (omega (arith, s .1, facts m (s .0) .few)))
+
 -- Demand 3, for every N and every list of events.
 pub demand-3 : Demand3
 demand-3 n es =
     let r = power-on-ready n in
-    nesting eh1 eh1-laws (powerOnOf n .machine) (r .isSound, r .places) (ap (held seen (powerOnOf n .machine .service .stack)) (power-on-empty n)) es
+    let s : eh1 .Sound (powerOnOf n .machine) = (r .isSound, r .places) in
+    record {
+      nested = nesting eh1 eh1-laws (powerOnOf n .machine) s (ap (held seen (powerOnOf n .machine .service .stack)) (power-on-empty n)) es;
+      words = trace-words eh1 (powerOnOf n .machine) es;
+      open-handlers = open-is-depth (lastOf n es) (end-sound eh1 eh1-laws (powerOnOf n .machine) s es);
+    }

@@ -12,17 +12,14 @@ use Rattle.buffers.specs.Filled.{filled}
 use borrow.Author.Tests.{ltb-true, ltb-false, le-ltb}
 use Rattle.nesting.specs.Claim as claim
 use Rattle.nesting.specs.Trace as trace
-use Rattle.nesting.proofs.TraceLaws.{scans-are-words}
-use Rattle.nesting.proofs.Held.{held-length}
 use Rattle.handlers.specs.declared.Machine.{Machine}
 use Rattle.handlers.specs.declared.Outcome.{Outcome}
 use Rattle.handlers.specs.Machines.{powerOnOf}
 use Rattle.handlers.specs.Calls.{stepOf}
 use Rattle.claims.specs.declared.Played.{Played}
 use Rattle.claims.specs.Play.{least, endOf, eachOf, answersOf, refusalsOf, eventsPlayed, playedOf}
-use Rattle.claims.specs.Nested.{word, Event, Answer, answerOf, seen, eh1, eventsOf, eachIn, Claimed}
-use Rattle.handlers_laws.proofs.Facts.{facts}
-use Rattle.handlers_laws.proofs.Kept.{Ready, step-ready, power-on-ready}
+use Rattle.claims.specs.Nested.{word, Event, Answer, answerOf, eh1, eventsOf, eachIn, Claimed}
+use Rattle.handlers_laws.proofs.Kept.{Ready, step-ready}
 use Rattle.claims.proofs.Laws.{demand-3}
 
 -- The lesser of two is at most each of them.
@@ -145,10 +142,6 @@ end-ready m r [] vs w = r
 end-ready m r (h ∷ hs) [] w = r
 end-ready m r (h ∷ hs) (v ∷ vs) w = end-ready (stepOf m h v .machine) (step-ready m r h v (w 0)) hs vs (λ i. w (suc i))
 
--- As many handlers are open as the depth says.
-open-is-depth : (m : Machine) → Ready m → m .service .depth ≡ length (eh1 .stack m)
-open-is-depth m r = sym (held-length seen (m .service .stack) (m .service .depth) (omega (arith, r .places, facts m (r .isSound) .few)))
-
 -- Demand 3 for the list that was played.
 pub claimed : (n k : ℕ) (hs vs : List ℕ) → Words hs → Words vs → {m : Machine} → m ≡ endOf (powerOnOf n .machine) (take k hs) (take k vs)
     → Claimed n (take k hs) (take k vs) m
@@ -156,12 +149,10 @@ claimed n k hs vs a b {m} e =
     let a′ = take-words k hs a in
     let b′ = take-words k vs b in
     record {
-      nested = demand-3 n (eventsOf (take k hs) (take k vs));
+      nesting = demand-3 n (eventsOf (take k hs) (take k vs));
       ends = e ∙ end-is (powerOnOf n .machine) (take k hs) (take k vs) a′ b′;
       answers = each-is (λ (z : Answer). z .answer) (powerOnOf n .machine) (take k hs) (take k vs) a′ b′;
       refusals = each-is (λ (z : Answer). z .refusal) (powerOnOf n .machine) (take k hs) (take k vs) a′ b′;
-      words = scans-are-words _;
-      open-handlers = open-is-depth m (rw e (end-ready (powerOnOf n .machine) (power-on-ready n) (take k hs) (take k vs) b′));
     }
 
 -- What `play` hands back, once its loop has ended.

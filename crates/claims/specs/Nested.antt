@@ -91,19 +91,31 @@ eh1 =
       most = 15;
     }
 
--- Demand 3: for every N, also one that power-on refuses, and every list of events.
+-- The list as it was played from power-on with N: an entry for each event, with its class and its answer; and the machine that the last event handed back.
+abbrev pub traceOf : ℕ → List Event → List (trace.Entry (claim.Step eh1))
+traceOf n es = claim.trace eh1 (powerOnOf n .machine) es
+
+abbrev pub lastOf : ℕ → List Event → Machine
+lastOf n es = claim.end eh1 (powerOnOf n .machine) es
+
+-- The claim about a list of events from power-on with N.
+pub record Nesting (n : ℕ) (es : List Event) : Type 0 where
+  -- "Demand 3 is a single claim about the whole list."
+  pub nested : claim.Nested eh1 (powerOnOf n .machine) es
+  -- "Its words": own returns, open handlers and chainings as the claim finds them in the list are what the sentences say.
+  pub words : trace.ScansAreWords (traceOf n es)
+  -- "Open, as a number, is how many handlers are on the stack": the depth, which the last line prints.
+  pub open-handlers : lastOf n es .service .depth ≡ length (eh1 .stack (lastOf n es))
+
+-- Demand 3: for every N, also one that power-on refuses, and every list of events; so it holds after every event of a list.
 abbrev pub Demand3 : Type 0
-Demand3 = (n : ℕ) (es : List Event) → claim.Nested eh1 (powerOnOf n .machine) es
+Demand3 = (n : ℕ) (es : List Event) → Nesting n es
 
 -- The events of two lists, heads beside values.
 abbrev pub eventsOf : List ℕ → List ℕ → List Event
 eventsOf [] values = []
 eventsOf (head ∷ heads) [] = []
 eventsOf (head ∷ heads) (value ∷ values) = record { head = head; value = value } ∷ eventsOf heads values
-
--- The list as it was played from power-on with N: an entry for each event, with its class and its answer.
-abbrev pub traceOf : ℕ → List Event → List (trace.Entry (claim.Step eh1))
-traceOf n es = claim.trace eh1 (powerOnOf n .machine) es
 
 -- What is read off the answer of each entry of a trace, in their order: what it answered, and what it was refused with.
 abbrev pub eachIn : (Answer → ℕ) → List (trace.Entry (claim.Step eh1)) → List ℕ
@@ -117,14 +129,10 @@ refusalsIn = eachIn (λ (a : Answer). a .refusal)
 
 -- The claim about a list that was played from power-on with N to a machine.
 pub record Claimed (n : ℕ) (heads values : List ℕ) (m : Machine) : Type 0 where
-  -- "Demand 3 is a single claim about the whole list."
-  pub nested : claim.Nested eh1 (powerOnOf n .machine) (eventsOf heads values)
+  -- Demand 3 for this list.
+  pub nesting : Nesting n (eventsOf heads values)
   -- "The first event gets the machine that power-on handed back, each later one the machine that the event before it handed back": the machine is the
   -- last of these, and the answers and refusals are those that the claim speaks of.
-  pub ends : m ≡ claim.end eh1 (powerOnOf n .machine) (eventsOf heads values)
+  pub ends : m ≡ lastOf n (eventsOf heads values)
   pub answers : answersOf (powerOnOf n .machine) heads values ≡ answersIn (traceOf n (eventsOf heads values))
   pub refusals : refusalsOf (powerOnOf n .machine) heads values ≡ refusalsIn (traceOf n (eventsOf heads values))
-  -- "Its words": own returns, open handlers and chainings as the claim finds them in the list are what the sentences say.
-  pub words : trace.ScansAreWords (traceOf n (eventsOf heads values))
-  -- "Open, as a number, is how many handlers are on the stack": the depth, which the last line prints.
-  pub open-handlers : m .service .depth ≡ length (eh1 .stack m)
