@@ -7,6 +7,7 @@ ghost use Rattle.buffers.specs.Filled.{filled};
 ghost use Rattle.handlers.specs.Machines.{powerOnOf};
 ghost use Rattle.handlers.specs.Calls.{stepOf};
 ghost use Rattle.claims.specs.Play.{least, eventsPlayed, playedOf, endOf, answersOf, refusalsOf};
+ghost use Rattle.claims.specs.Nested.{Claimed};
 ghost use Rattle.lent_machine.specs.Lend.{answeredOf};
 use claims::Played;
 use handlers::Machine;
@@ -72,6 +73,7 @@ pub fn play_lent(
     ensures { λ r. ⌜ r ≡ playedOf n (eventsPlayed (length (now (heads .entry))) (length (now (values .entry))) (length (now (answers .entry))) (length (now (refusals .entry)))) (now (heads .entry)) (now (values .entry)) ⌝ }
     ensures { λ r. ⌜ now (answers .exit) ≡ filled (answersOf (powerOnOf n .machine) (take (r .events) (now (heads .entry))) (take (r .events) (now (values .entry)))) (now (answers .entry)) ⌝ }
     ensures { λ r. ⌜ now (refusals .exit) ≡ filled (refusalsOf (powerOnOf n .machine) (take (r .events) (now (heads .entry))) (take (r .events) (now (values .entry)))) (now (refusals .entry)) ⌝ }
+    ensures { λ r. ⌜ Claimed n (take (r .events) (now (heads .entry))) (take (r .events) (now (values .entry))) (r .machine) ⌝ }
 {
     let on = Machine::power_on(n);
     let m = on.machine;

@@ -7,7 +7,7 @@ use Rattle.handlers.specs.declared.Machine.{Machine}
 use Rattle.handlers.specs.declared.Outcome.{Outcome}
 use Rattle.handlers.specs.Machines.{powerOnOf}
 use Rattle.claims.specs.Play.{endOf, eachOf, eventsPlayed}
-use Rattle.claims.proofs.Playing.{Fits, count-fits, played-end}
+use Rattle.claims.proofs.Playing.{Fits, count-fits, played-end, claimed}
 use borrow.Author.Needs.{needs}
 use Rattle.lent_machine.proofs.play_lent.Statement.{statement}
 use Rattle.lent_machine.proofs.play_lent.Tie as tie
@@ -54,9 +54,16 @@ returns c =
     let a = c .before .before .before .before .before .before .before .before .before .before .before .before .before .before .before .before .args in
     let h = a .heads .now in
     let v = a .values .now in
-    let count : k ≡ eventsPlayed (length h) (length v) (length (a .answers .now)) (length (a .refusals .now)) = rw (c .before .before .before .before .before .before .before .lesser3 .ensures, c .before .before .before .before .before .before .before .before .lesser2 .ensures, c .before .before .before .before .before .before .before .before .before .lesser .ensures) in (
-      played-end (a .n) h v refl (end-from (a .n) k h v on (e .0)) count (ap (λ (o : Outcome). o .refusal) on),
-      (stored-from (a .n) k h v on (λ (o : Outcome). o .answer) _ (e .1), stored-from (a .n) k h v on (λ (o : Outcome). o .refusal) _ (e .2)),
+    let count : k ≡ eventsPlayed (length h) (length v) (length (a .answers .now)) (length (a .refusals .now)) = rw (c .before .before .before .before .before .before .before .lesser3 .ensures, c .before .before .before .before .before .before .before .before .lesser2 .ensures, c .before .before .before .before .before .before .before .before .before .lesser .ensures) in
+    let last = end-from (a .n) k h v on (e .0) in (
+      played-end (a .n) h v refl last count (ap (λ (o : Outcome). o .refusal) on),
+      (
+        stored-from (a .n) k h v on (λ (o : Outcome). o .answer) _ (e .1),
+        (
+          stored-from (a .n) k h v on (λ (o : Outcome). o .refusal) _ (e .2),
+          claimed (a .n) k h v (λ i. c .before .before .before .before .before .before .before .before .before .before .before .before .before .before .before .shared-slice-known .given i .fits) (λ i. c .before .before .before .before .before .before .before .before .before .before .before .before .before .before .shared-slice-known2 .given i .fits) last,
+        ),
+      ),
     )
 
 pub play-lent-spec : {M : Type 1} → statement M
