@@ -269,7 +269,8 @@ module _ (bytes : List ℕ) (byte : Below 256 bytes) (z : boardVerdict bytes .re
         let line = line-of-event (sourcesOf bytes) (headsOf bytes) (valuesOf bytes) small few same hh hv p (first .0 .0) in
         (asked (rw long at (b .0)) ∙ ap (written (refusedAt 27 p)) line, left back ∙ b .1)
 
-pub comes-back : (bytes : List ℕ) → Below 256 bytes → ComesBack bytes
+-- The text of a record is read back.
+pub comes-back : (bytes : List ℕ) → Below 256 bytes → ComesBack bytes (textOf bytes)
 comes-back bytes byte z = (
   (λ clear. (back-again bytes byte z zeros zeros-long clear .0, (λ back long. back-again bytes byte z back long clear .1))),
   (λ p first. (not-again bytes byte z zeros zeros-long p first .0, (λ back long. not-again bytes byte z back long p first .1))),

@@ -6,7 +6,7 @@ use native.Mathlib.Omega.{arith}
 use mathlib.Core.List.{List, [], _∷_, _++_, append-assoc, append-nil}
 use lib.Dec.{lit<, lit≤}
 use lib.ListN.{length, getD, take, length-append}
-use lib.Seq.{length-sets, take-all, length-take-le}
+use lib.Seq.{length-sets, take-all, take-at, length-take-le}
 use Rattle.buffers.proofs.Stores.{sets-filled}
 use Rattle.buffers.specs.Filled.{filled}
 use Rattle.digits.specs.Digits.{decimal, hexadecimal}
@@ -142,18 +142,18 @@ parts-fit p = (omega (arith, p .accepts .few, p .count), omega (arith, p .accept
 module _ (bytes text : List ℕ) {headPlaces valuePlaces n s : ℕ} {hs vs : List ℕ} (p : Parts board bytes headPlaces valuePlaces n s hs vs)
     (eh : headPlaces ≡ mostEvents) (ev : valuePlaces ≡ mostEvents) where
   pub text-made : {l : ℕ} {d : List ℕ} → l ≡ length (listingOf s (take n hs) (take n vs)) → d ≡ filled (listingOf s (take n hs) (take n vs)) text
-      → (doneWith (l ∷ []) ≡ toTextAnswer bytes) × (d ≡ toTextBytes bytes text)
+      → (doneWith (l ∷ []) ≡ toTextAnswer bytes) × (d ≡ toTextBytes bytes text) × (take l d ≡ textOf bytes)
   text-made {l} {d} el ed =
       let yes : boardVerdict bytes .refusal ≡ 0 = rw (own-arrays board bytes eh ev) at (p .yes) in
       let el′ : l ≡ length (textOf bytes) = rw (p .heads, p .values, p .sources) at el in
       let ed′ : d ≡ filled (textOf bytes) text = rw (p .heads, p .values, p .sources) at ed in
-      rw (eq-eqb _ _ yes) (ap (λ (k : ℕ). doneWith (k ∷ [])) el′, ed′)
+      rw (eq-eqb _ _ yes) (ap (λ (k : ℕ). doneWith (k ∷ [])) el′, ed′, ap (take l) ed′ ∙ take-at (textOf bytes) _ l (sym el′))
 
 -- The refusal of one that was not.
 pub text-not-made : (bytes text : List ℕ) {headPlaces valuePlaces : ℕ} {r : ReadAnswer} {number place : ℕ} → headPlaces ≡ mostEvents → valuePlaces ≡ mostEvents
     → readNumbers r ≡ readAnswer board bytes headPlaces valuePlaces → r ≡ reading.Refused number place
-    → (refusedAt number place ≡ toTextAnswer bytes) × (text ≡ toTextBytes bytes text)
+    → (refusedAt number place ≡ toTextAnswer bytes) × (text ≡ toTextBytes bytes text) × (boardVerdict bytes .refusal ≡ 0 → ⊥)
 text-not-made bytes text {headPlaces} {valuePlaces} {r} {number} {place} eh ev e er =
     let e′ : readNumbers r ≡ readAnswer board bytes mostEvents mostEvents = rw (eh, ev) at e in
     let no = read-not board bytes mostEvents mostEvents e′ er in
-    rw (no .1, no .2, ne-eqb _ _ (no .0)) (refl, refl)
+    rw (no .1, no .2, ne-eqb _ _ (no .0)) (refl, refl, no .0)

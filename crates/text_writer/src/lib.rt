@@ -2,7 +2,7 @@
 
 ghost use mathlib.Core.Path.{_≡_};
 ghost use Prim.Native.Nat.{_+_, _*_, _≤_, _<_};
-ghost use lib.ListN.{length};
+ghost use lib.ListN.{length, take};
 ghost use lib.Seq.{sets};
 ghost use Rattle.buffers.specs.Filled.{filled};
 ghost use Rattle.text_writer.specs.Writing.{ended, eventText, eventsText, listingOf};
@@ -64,7 +64,7 @@ pub fn to_text(bytes: &[u8], text: &mut [u8; LISTING_SIZE]) -> TextAnswer
     ensures { λ r. ⌜ textNumbers r ≡ toTextAnswer (now (bytes .entry)) ⌝ }
     ensures { λ _. ⌜ now (text .exit) ≡ toTextBytes (now (bytes .entry)) (now (text .entry)) ⌝ }
     ensures { λ r. ⌜ textLength r ≤ length (now (text .exit)) ⌝ }
-    ensures { λ _. ⌜ ComesBack (now (bytes .entry)) ⌝ }
+    ensures { λ r. ⌜ ComesBack (now (bytes .entry)) (take (textLength r) (now (text .exit))) ⌝ }
 {
     let mut heads: [u32; MOST_EVENTS] = [0; MOST_EVENTS];
     let mut values: [u32; MOST_EVENTS] = [0; MOST_EVENTS];

@@ -1,4 +1,4 @@
-use mathlib.Core.Path.{_≡_, sym, _∙_}
+use mathlib.Core.Path.{_≡_, sym, subst, _∙_}
 use Prim.Native.Nat.{ℕ, _≤_}
 use native.Mathlib.Omega.{arith}
 use mathlib.Core.List.{List}
@@ -31,10 +31,6 @@ none = replicate mostEvents 0
 
 zeros : length none ≡ mostEvents
 zeros = length-replicate {A = ℕ} mostEvents 0
-
--- The round trip, of the bytes that were handed in.
-back : (c : tie.After-read) → ComesBack (c .before .before .before .before .args .bytes .now)
-back c = comes-back _ (λ i. c .before .before .before .shared-slice-known .given i .fits)
 
 -- Where a record was read: N, heads and values.
 parts : (c : tie.After-got)
@@ -84,14 +80,15 @@ returns c =
     let got = c .before .before .before .before .before in
     let args = got .before .before .before .before .before .before .before .before .args in
     let made = text-made (args .bytes .now) (args .text .now) (parts got) zeros zeros (put .ensures .0) (put .ensures .1 .0) in
-    (made .0, (made .1, (put .ensures .1 .1, back (got .before .before .before .before))))
+    let known = got .before .before .before .before .before .before .before .shared-slice-known in
+    (made .0, (made .1, (put .ensures .1 .1, subst (ComesBack (args .bytes .now)) (sym (made .2)) (comes-back (args .bytes .now) (λ i. known .given i .fits)))))
 
 returns-2 : tie.Need-returns-2
 returns-2 c =
     let read = c .before .before .before .before .before in
     let args = read .before .before .before .before .args in
     let no = text-not-made (args .bytes .now) (args .text .now) zeros zeros (read .read .ensures .0) (c .before .got2 .given .1) in
-    (no .0, (no .1, (search needs, back read)))
+    (no .0, (no .1, (search needs, (λ yes. absurd (no .2 yes)))))
 
 pub to-text-spec : {M : Type 1} → statement M
 to-text-spec =
