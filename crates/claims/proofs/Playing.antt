@@ -7,9 +7,9 @@ use native.Mathlib.Numerals.{add-one}
 use native.Mathlib.Omega.{arith}
 use lib.ListN.{length, getD, take, drop, set, length-append}
 use lib.Seq.{drop-cons, set-append-seam, take-all}
-use lib.Dec.{ltb}
 use Rattle.buffers.specs.Filled.{filled}
-use borrow.Author.Tests.{ltb-true, ltb-false, le-ltb}
+use Rattle.buffers.specs.Least.{least}
+use Rattle.buffers.proofs.Least.{least-both, least-first, least-above}
 use Rattle.nesting.specs.Claim as claim
 use Rattle.nesting.specs.Trace as trace
 use Rattle.handlers.specs.declared.Machine.{Machine}
@@ -17,19 +17,10 @@ use Rattle.handlers.specs.declared.Outcome.{Outcome}
 use Rattle.handlers.specs.Machines.{powerOnOf}
 use Rattle.handlers.specs.Calls.{stepOf}
 use Rattle.claims.specs.declared.Played.{Played}
-use Rattle.claims.specs.Play.{least, endOf, eachOf, answersOf, refusalsOf, eventsPlayed, playedOf}
+use Rattle.claims.specs.Play.{endOf, eachOf, answersOf, refusalsOf, eventsPlayed, playedOf}
 use Rattle.claims.specs.Nested.{word, Event, Answer, answerOf, eh1, eventsOf, eachIn, Claimed}
 use Rattle.handlers_laws.proofs.Kept.{Ready, step-ready}
 use Rattle.claims.proofs.Laws.{demand-3}
-
--- The lesser of two is at most each of them.
-pub least-both : (a b : ℕ) → (least a b ≤ a) × (least a b ≤ b)
-unfolding least
-least-both a b = go (ltb b a) refl
-  where
-    go : (t : Bool) → ltb b a ≡ t → (cond t b a ≤ a) × (cond t b a ≤ b)
-    go true e = let l = ltb-true b a e in (omega arith, omega arith)
-    go false e = let l = ltb-false b a e in (omega arith, l)
 
 -- As many events as all four have places.
 pub record Fits (k a b c d : ℕ) : Type 0 where
@@ -167,19 +158,6 @@ module _ (n : ℕ) (hs vs : List ℕ) {m : Machine} {k i : ℕ} (hi : i ≡ k) (
   pub stored-end : (out : Outcome → ℕ) (old : List ℕ) {l : List ℕ} → l ≡ filled (eachOf out (powerOnOf n .machine) (take i hs) (take i vs)) old
       → l ≡ filled (eachOf out (powerOnOf n .machine) (take k hs) (take k vs)) old
   stored-end out old hl = hl ∙ rw hi
-
--- The lesser is the first where that is at most the second; what is at most both is at most the lesser.
-least-first : (a b : ℕ) → a ≤ b → least a b ≡ a
-unfolding least
-least-first a b h = rw (le-ltb b a h)
-
-least-above : (k a b : ℕ) → k ≤ a → k ≤ b → k ≤ least a b
-unfolding least
-least-above k a b h g = go (ltb b a)
-  where
-    go : (t : Bool) → k ≤ cond t b a
-    go true = g
-    go false = h
 
 -- Values as many as heads, and arrays that hold them: all events are played.
 pub count-all : (a b c d : ℕ) → b ≡ a → a ≤ c → a ≤ d → eventsPlayed a b c d ≡ a

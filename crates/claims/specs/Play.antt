@@ -1,19 +1,14 @@
 -- A list of events played: "the first event gets the machine that power-on handed back, each later one the machine that the event before it handed
 -- back, refused or not".
 use Prim.Native.Nat.{ℕ}
-use mathlib.Core.Bool.{cond}
 use mathlib.Core.List.{List, [], _∷_}
-use lib.Dec.{ltb}
 use lib.ListN.{take}
+use Rattle.buffers.specs.Least.{least}
 use Rattle.handlers.specs.declared.Machine.{Machine}
 use Rattle.handlers.specs.declared.Outcome.{Outcome}
 use Rattle.handlers.specs.Machines.{powerOnOf}
 use Rattle.handlers.specs.Calls.{stepOf}
 use Rattle.claims.specs.declared.Played.{Played}
-
--- The lesser of two numbers.
-unfoldable pub least : ℕ → ℕ → ℕ
-least a b = cond (ltb b a) b a
 
 -- The machine after the events, heads beside values.
 unfoldable pub endOf : Machine → List ℕ → List ℕ → Machine

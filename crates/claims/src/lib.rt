@@ -4,8 +4,9 @@ ghost use mathlib.Core.Path.{_≡_};
 ghost use lib.ListN.{length, take};
 ghost use Rattle.buffers.specs.Filled.{filled};
 ghost use Rattle.handlers.specs.Machines.{powerOnOf};
-ghost use Rattle.claims.specs.Play.{least, eventsPlayed, playedOf, answersOf, refusalsOf};
+ghost use Rattle.claims.specs.Play.{eventsPlayed, playedOf, answersOf, refusalsOf};
 ghost use Rattle.claims.specs.Nested.{Claimed};
+use buffers::lesser;
 use handlers::Checked;
 use handlers::Machine;
 
@@ -14,12 +15,6 @@ pub struct Played {
     pub machine: Machine,
     pub events: usize,
     pub refusal: u8,
-}
-
-fn lesser(a: usize, b: usize) -> usize
-    ensures { λ r. ⌜ r ≡ least a b ⌝ }
-{
-    if b < a { b } else { a }
 }
 
 // Plays the events from power-on with n sources, and stores what each answers and what it is refused with. As many events are played as heads, values,

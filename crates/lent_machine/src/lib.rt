@@ -6,9 +6,10 @@ ghost use lib.ListN.{length, take};
 ghost use Rattle.buffers.specs.Filled.{filled};
 ghost use Rattle.handlers.specs.Machines.{powerOnOf};
 ghost use Rattle.handlers.specs.Calls.{stepOf};
-ghost use Rattle.claims.specs.Play.{least, eventsPlayed, playedOf, endOf, answersOf, refusalsOf};
+ghost use Rattle.claims.specs.Play.{eventsPlayed, playedOf, endOf, answersOf, refusalsOf};
 ghost use Rattle.claims.specs.Nested.{Claimed};
 ghost use Rattle.lent_machine.specs.Lend.{answeredOf};
+use buffers::lesser;
 use claims::Played;
 use handlers::Machine;
 
@@ -54,12 +55,6 @@ fn lend_each(
         i += 1;
     }
     lent
-}
-
-fn lesser(a: usize, b: usize) -> usize
-    ensures { λ r. ⌜ r ≡ least a b ⌝ }
-{
-    if b < a { b } else { a }
 }
 
 // Plays the events from power-on with n sources on one machine, which is lent for each, and stores what each answers and what it is refused with, as claims::play does.

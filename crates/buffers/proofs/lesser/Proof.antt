@@ -1,7 +1,7 @@
 use borrow.Author.Tests.{lt-ltb, le-ltb}
-use Rattle.claims.specs.Play.{least}
-use Rattle.claims.proofs.lesser.Statement.{statement}
-use Rattle.claims.proofs.lesser.Tie as tie
+use Rattle.buffers.specs.Least.{least}
+use Rattle.buffers.proofs.lesser.Statement.{statement}
+use Rattle.buffers.proofs.lesser.Tie as tie
 
 returns : tie.Need-returns
 unfolding least
