@@ -33,14 +33,14 @@ use Rattle.handlers.specs.declared.Machine.{Machine}
 use Rattle.handlers.specs.declared.Outcome.{Outcome}
 use Rattle.handlers.specs.Fields.{withCounters}
 use Rattle.handlers_stack.specs.Stacks.{blank}
-use Rattle.handlers.specs.Machines.{uppermost, powerOnOf}
+use Rattle.handlers.specs.Machines.{uppermost, soundOf, powerOnOf}
 use Rattle.handlers.specs.Service.{accepted, refused, lifted, lookAt}
 use Rattle.handlers_service.specs.Fields.{withSource, withOpened}
 use Rattle.handlers_laws.proofs.Service.{withMask, newHandler, taken, serves, chained, nextSource}
 use Rattle.handlers.specs.Calls.{stepOf}
 use Rattle.handlers_laws.proofs.Facts.{facts, Sound, saved-small, room, served-facts}
 use Rattle.handlers_laws.proofs.Cases.{step-cases}
-use Rattle.handlers_laws.proofs.Kept.{Ready, step-ready, power-on-ready, power-on-empty, top-current, one-more}
+use Rattle.handlers_laws.proofs.Kept.{step-sound, power-on-sound, power-on-empty, top-current, one-more}
 use Rattle.claims.specs.Nested.{word, answerOf, acceptedClass, classBy, seen, Won, eh1, lastOf, Demand3}
 
 -- A served winner above the threshold is the one to serve.
@@ -71,9 +71,9 @@ DoesBy kind m o = Does eh1 (classBy kind (answerOf o)) m (answerOf o) (o .machin
 refused-does : (kind : ℕ) (m : Machine) (q : ℕ) → (q ≡ 0 → ⊥) → DoesBy kind m (refused m q)
 refused-does kind m q h = rw (ne-eqb q 0 h) refl
 
-module _ (m : Machine) (r : Ready m) where
+module _ (m : Machine) (r : soundOf m ≡ true) where
   sound-here : Sound m
-  sound-here = facts m (r .isSound)
+  sound-here = facts m r
 
   -- Take pushes.
   taken-pushes : (m .service .mask ≡ 0 → ⊥) → ltZ (pos 0) (lookAt m .margin) ≡ true
@@ -86,19 +86,19 @@ module _ (m : Machine) (r : Ready m) where
       let d = room m s h g in
       record {
         new = seen (newHandler m);
-        pushed = rw (one-more m r h g) (held-push seen (m .service .stack) (m .service .depth) (newHandler m) (omega (arith, r .places, d)));
+        pushed = rw (one-more m r h g) (held-push seen (m .service .stack) (m .service .depth) (newHandler m) (omega (arith, s .places, d)));
         serves = record { names = k .names; ranked = ap (λ (z : Rank). z .0) (k .winner .ranked) };
         won = won c (lookAt m) k (o .threshold);
         saved = refl;
         above = λ rest top e.
-            let t = held-top seen (m .service .stack) (m .service .depth) blank rest top (omega (arith, r .places, d)) e in
+            let t = held-top seen (m .service .stack) (m .service .depth) blank rest top (omega (arith, s .places, d)) e in
             let q : top .rank ≡ uppermost m .rank .0 = ap (λ z. z .rank) (t .1) in
             omega (arith, q, o .current, top-current m s h (t .0));
         inRange = (omega (arith, o .threshold), k .rank-most);
       }
 
   deep : m .service .depth ≤ length (m .service .stack)
-  deep = omega (arith, r .places, sound-here .few)
+  deep = omega (arith, sound-here .places, sound-here .few)
 
   -- Chain and commit replace the uppermost.
   chained-swaps : 0 < m .service .depth → serves m ≡ true
@@ -171,23 +171,22 @@ module _ (m : Machine) (r : Ready m) where
 pub eh1-laws : Laws eh1
 eh1-laws =
     record {
-      stays-sound = λ m e h. let r = step-ready m (record { isSound = h .0; places = h .1 }) (word (e .head)) (word (e .value)) (omega arith) in (r .isSound, r .places);
-      does = λ m e h. step-does m (record { isSound = h .0; places = h .1 }) (word (e .head)) (word (e .value));
+      stays-sound = λ m e h. step-sound m h (word (e .head)) (word (e .value)) (omega arith);
+      does = λ m e h. step-does m h (word (e .head)) (word (e .value));
       below-trans = λ a b c p q. omega arith;
       below-height = λ a b p q l. l;
     }
 
 -- As many handlers are open as the depth says.
-open-is-depth : (m : Machine) → eh1 .Sound m → m .service .depth ≡ length (eh1 .stack m)
-open-is-depth m s = sym (held-length seen (m .service .stack) (m .service .depth) (omega (arith, s .1, facts m (s .0) .few)))
+open-is-depth : (m : Machine) → soundOf m ≡ true → m .service .depth ≡ length (eh1 .stack m)
+open-is-depth m r = sym (held-length seen (m .service .stack) (m .service .depth) (deep m r))
 
 -- Demand 3, for every N and every list of events.
 pub demand-3 : Demand3
 demand-3 n es =
-    let r = power-on-ready n in
-    let s : eh1 .Sound (powerOnOf n .machine) = (r .isSound, r .places) in
+    let r = power-on-sound n in
     record {
-      nested = nesting eh1 eh1-laws (powerOnOf n .machine) s (ap (held seen (powerOnOf n .machine .service .stack)) (power-on-empty n)) es;
+      nested = nesting eh1 eh1-laws (powerOnOf n .machine) r (ap (held seen (powerOnOf n .machine .service .stack)) (power-on-empty n)) es;
       words = trace-words eh1 (powerOnOf n .machine) es;
-      open-handlers = open-is-depth (lastOf n es) (end-sound eh1 eh1-laws (powerOnOf n .machine) s es);
+      open-handlers = open-is-depth (lastOf n es) (end-sound eh1 eh1-laws (powerOnOf n .machine) r es);
     }

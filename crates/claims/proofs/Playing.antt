@@ -14,12 +14,12 @@ use Rattle.nesting.specs.Claim as claim
 use Rattle.nesting.specs.Trace as trace
 use Rattle.handlers.specs.declared.Machine.{Machine}
 use Rattle.handlers.specs.declared.Outcome.{Outcome}
-use Rattle.handlers.specs.Machines.{powerOnOf}
+use Rattle.handlers.specs.Machines.{soundOf, powerOnOf}
 use Rattle.handlers.specs.Calls.{stepOf}
 use Rattle.claims.specs.declared.Played.{Played}
 use Rattle.claims.specs.Play.{endOf, eachOf, answersOf, refusalsOf, eventsPlayed, playedOf}
 use Rattle.claims.specs.Nested.{word, Event, Answer, answerOf, eh1, eventsOf, eachIn, Claimed}
-use Rattle.handlers_laws.proofs.Kept.{Ready, step-ready}
+use Rattle.handlers_laws.proofs.Kept.{step-sound}
 use Rattle.claims.proofs.Laws.{demand-3}
 
 -- As many events as all four have places.
@@ -127,11 +127,11 @@ each-is out m (h ∷ hs) (v ∷ vs) a b =
     ∙ ap (λ (x : claim.Step eh1). out (x .answered) ∷ rest (stepOf m (word h) (word v) .machine)) (sym (step-in (eh1 .class e (eh1 .answer m e)) (claim.stepFrom eh1 m e)))
 
 -- The machine after any list of 32-bit values is sound where the one before it is.
-pub end-ready : (m : Machine) → Ready m → (hs vs : List ℕ) → Words vs → Ready (endOf m hs vs)
+pub played-sound : (m : Machine) → soundOf m ≡ true → (hs vs : List ℕ) → Words vs → soundOf (endOf m hs vs) ≡ true
 unfolding endOf
-end-ready m r [] vs w = r
-end-ready m r (h ∷ hs) [] w = r
-end-ready m r (h ∷ hs) (v ∷ vs) w = end-ready (stepOf m h v .machine) (step-ready m r h v (w 0)) hs vs (λ i. w (suc i))
+played-sound m r [] vs w = r
+played-sound m r (h ∷ hs) [] w = r
+played-sound m r (h ∷ hs) (v ∷ vs) w = played-sound (stepOf m h v .machine) (step-sound m r h v (w 0)) hs vs (λ i. w (suc i))
 
 -- Demand 3 for the list that was played.
 pub claimed : (n k : ℕ) (hs vs : List ℕ) → Words hs → Words vs → {m : Machine} → m ≡ endOf (powerOnOf n .machine) (take k hs) (take k vs)

@@ -94,7 +94,7 @@ told m e d ch = go (serves m) refl
           winner = λ n. rw (← r) (k .winner);
           above = λ n. omega (arith, v .above, v .ranked);
           answers = λ n. rw c (k .names);
-          replaces = λ n p. rw c (ap (λ (q : Handler). q .source) (getD-set-same (m .service .stack) (m .service .depth - 1) h blank (omega (arith, p, s .few, d))));
+          replaces = λ n. rw c (ap (λ (q : Handler). q .source) (getD-set-same (m .service .stack) (m .service .depth - 1) h blank (omega (arith, s .places, s .few, d))));
         }
     go false f =
         record {
@@ -102,7 +102,7 @@ told m e d ch = go (serves m) refl
           winner = λ n. absurd (n refl);
           above = λ n. absurd (n refl);
           answers = λ n. absurd (n refl);
-          replaces = λ n p. absurd (n refl);
+          replaces = λ n. absurd (n refl);
         }
 
 -- The three calls, once each: question 8, questions 17 and 19, and the rest.

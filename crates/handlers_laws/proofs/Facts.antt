@@ -4,7 +4,7 @@ use mathlib.Core.Path.{_≡_, refl, ap, _∙_}
 use mathlib.Core.Bool.{true}
 use mathlib.Core.Logic.{_⊎_, inl, inr, ⊎-elim}
 use native.Mathlib.Omega.{arith}
-use lib.ListN.{getD}
+use lib.ListN.{length, getD}
 use lib.Dec.{eqb}
 use lib.IntN.{pos}
 use lib.Signed.{ltZ}
@@ -28,6 +28,7 @@ use Rattle.handlers.specs.Service.{lookAt}
 use Rattle.handlers_laws.proofs.Service.{serves}
 
 pub record Sound (m : Machine) : Type 0 where
+  pub places : length (m .service .stack) ≡ 15
   pub few : m .service .depth ≤ 15
   pub bit : m .service .mask ≤ 1
   pub handlers : (j : ℕ) → j < m .service .depth → Fine (sourceCount (m .controller)) (m .service .depth) (m .service .stack) j
@@ -41,6 +42,7 @@ unfolding soundOf
 facts m e =
     let f = service.facts (m .service) (sourceCount (m .controller)) (currentRank (m .controller)) (t 0) in
     record {
+      places = f .places;
       few = f .few;
       bit = f .bit;
       handlers = f .handlers;
@@ -58,7 +60,7 @@ unfolding soundOf
 sound m f =
     rw (
       service.sound (m .service) (sourceCount (m .controller)) (currentRank (m .controller))
-          (record { few = f .few; bit = f .bit; handlers = f .handlers; current = f .current; masked = f .masked }),
+          (record { places = f .places; few = f .few; bit = f .bit; handlers = f .handlers; current = f .current; masked = f .masked }),
       f .controller,
     )
     (f .counters)
@@ -69,6 +71,7 @@ counters-sound m t e h =
     let f = facts m e in
     sound (withCounters m t)
     (record {
+      places = f .places;
       few = f .few;
       bit = f .bit;
       handlers = f .handlers;
@@ -85,6 +88,7 @@ controller-sound m c e h n k =
     let f = facts m e in
     sound (withController m c)
     (record {
+      places = f .places;
       few = f .few;
       bit = f .bit;
       handlers = λ j b. rw n (f .handlers j b);

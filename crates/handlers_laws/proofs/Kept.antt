@@ -23,7 +23,8 @@ use Rattle.counters.specs.Csrs as counters
 use Rattle.counters.proofs.Soundness.{reset-sound, clock-sound, error-sound}
 use Rattle.counters.proofs.Writes.{written-sound}
 use Rattle.pic_source.proofs.Bools.{or-cases, eq-cases}
-use Rattle.pic_laws.proofs.Kept.{sample-sound, sample-count, sample-current, store-sound, store-count, store-current, csr-write-sound, csr-write-count, csr-write-current, load-same, csr-read-same, capture-sound, capture-count, capture-current, current-sound, current-count, current-is, power-on-sound}
+use Rattle.pic_laws.proofs.Kept.{sample-sound, sample-count, sample-current, store-sound, store-count, store-current, csr-write-sound, csr-write-count, csr-write-current, load-same, csr-read-same, capture-sound, capture-count, capture-current, current-sound, current-count, current-is}
+use Rattle.pic_laws.proofs.Kept as controllers
 use Rattle.pic_laws.proofs.Captures.{look-found, margin-over}
 use Rattle.handlers_stack.specs.declared.Handler.{Handler}
 use Rattle.handlers_stack.specs.Stacks.{blank, handlerAt, belowOf, levelOf}
@@ -39,18 +40,6 @@ use Rattle.handlers_laws.proofs.Facts.{Sound, facts, sound, controller-
 use Rattle.handlers_service.specs.Fields.{withSource, withOpened}
 use Rattle.handlers_service.specs.Events.{oneMore}
 use Rattle.handlers_laws.proofs.Service.{withMask, isOpen, newHandler, taken, opened, serves, chained, returned}
-
--- A sound machine whose stack has its fifteen places.
-pub record Ready (m : Machine) : Type 0 where
-  pub isSound : soundOf m ≡ true
-  pub places : length (m .service .stack) ≡ 15
-
-ready : (m : Machine) → Sound m → length (m .service .stack) ≡ 15 → Ready m
-ready m f p = record { isSound = sound m f; places = p }
-
-with-controller : (m : Machine) (c : Controller) → Ready m → pic.soundOf c ≡ true → sourceCount c ≡ sourceCount (m .controller)
-    → (m .service .depth ≡ 0) ⊎ (currentRank c ≡ currentRank (m .controller)) → Ready (withController m c)
-with-controller m c r e n k = record { isSound = controller-sound m c (r .isSound) e n k; places = r .places }
 
 -- With the mask on, the current rank is the uppermost handler's.
 pub top-current : (m : Machine) → Sound m → (m .service .mask ≡ 0 → ⊥) → 0 < m .service .depth → currentRank (m .controller) .0 ≡ uppermost m .rank .0
@@ -84,14 +73,14 @@ top-opened m f h j e = go (f .masked)
     go (inr (inr o)) = let i : m .service .depth - 1 ≡ j = omega arith in ap (λ (a : ℕ). handlerAt (m .service .stack) a .opened) (sym i) ∙ o
 
 -- Take.
-module _ (m : Machine) (r : Ready m) (h : m .service .mask ≡ 0 → ⊥) (g : ltZ (pos 0) (lookAt m .margin) ≡ true) where
+module _ (m : Machine) (r : soundOf m ≡ true) (h : m .service .mask ≡ 0 → ⊥) (g : ltZ (pos 0) (lookAt m .margin) ≡ true) where
   -- There is a place, so the number of handlers does not wrap.
   pub one-more : oneMore (m .service .depth) ≡ m .service .depth + 1
-  one-more = omega (arith, room m (facts m (r .isSound)) h g)
+  one-more = omega (arith, room m (facts m r) h g)
 
   new-stored : Stored (m .service .stack) (m .service .depth) (newHandler m) (sourceCount (m .controller)) (m .service .depth + 1)
   new-stored =
-      let s = facts m (r .isSound) in
+      let s = facts m r in
       let o = margin-over (m .controller) g in
       let k = look-found (m .controller) (s .controller) (omega (arith, o .current)) in
       let b = current-below m s h in
@@ -108,7 +97,7 @@ module _ (m : Machine) (r : Ready m) (h : m .service .mask ≡ 0 → ⊥) (g : l
       }
 
   has-place : m .service .depth < length (m .service .stack)
-  has-place = omega (arith, r .places, room m (facts m (r .isSound)) h g)
+  has-place = omega (arith, facts m r .places, room m (facts m r) h g)
 
   taken-fine : (j : ℕ) → j < m .service .depth + 1 → Fine (sourceCount (m .controller)) (m .service .depth + 1) (taken m .service .stack) j
   taken-fine j l = go (eq-cases j (m .service .depth))
@@ -116,7 +105,7 @@ module _ (m : Machine) (r : Ready m) (h : m .service .mask ≡ 0 → ⊥) (g : l
       go : (j ≡ m .service .depth) ⊎ (j ≡ m .service .depth → ⊥) → Fine (sourceCount (m .controller)) (m .service .depth + 1) (taken m .service .stack) j
       go (inl e) = rw e (fine-stored (m .service .stack) (m .service .depth) (newHandler m) (sourceCount (m .controller)) (m .service .depth + 1) has-place new-stored)
       go (inr e) =
-          let f = facts m (r .isSound) in
+          let f = facts m r in
           let k = f .handlers j (omega (arith, e)) in
           fine-kept (m .service .stack) (m .service .depth) (newHandler m) (sourceCount (m .controller)) (m .service .depth + 1) j (omega (arith, e)) k
           (⊎-elim (λ z. inr (top-opened m f h j z)) (λ z. inr z) (k .opened))
@@ -127,11 +116,12 @@ module _ (m : Machine) (r : Ready m) (h : m .service .mask ≡ 0 → ⊥) (g : l
       let t : uppermost (taken m) ≡ newHandler m = rw i (getD-set-same (m .service .stack) (m .service .depth) (newHandler m) blank has-place) in
       sym (ap (λ (q : Handler). levelOf q .0) t ∙ ap (λ (a : Rank). a .0) (level-unopened (newHandler m) refl))
 
-  taken-ready : Ready (taken m)
-  taken-ready =
-      let s = facts m (r .isSound) in
-      ready (taken m)
+  taken-sound : soundOf (taken m) ≡ true
+  taken-sound =
+      let s = facts m r in
+      sound (taken m)
       (record {
+        places = simp length-set (s .places);
         few = omega (arith, one-more, room m s h g);
         bit = omega arith;
         handlers = λ j l. rw (capture-count (m .controller), one-more) (taken-fine j (omega (arith, l, one-more)));
@@ -140,14 +130,13 @@ module _ (m : Machine) (r : Ready m) (h : m .service .mask ≡ 0 → ⊥) (g : l
         controller = capture-sound (m .controller) (s .controller);
         counters = s .counters;
       })
-      (simp length-set (r .places))
 
 -- A store over the uppermost handler that keeps its rank, its saved rank and the depth.
-module _ (m : Machine) (r : Ready m) (d : 0 < m .service .depth) (h : Handler) (sl : 1 ≤ h .source) (sm : h .source ≤ sourceCount (m .controller))
+module _ (m : Machine) (r : soundOf m ≡ true) (d : 0 < m .service .depth) (h : Handler) (sl : 1 ≤ h .source) (sm : h .source ≤ sourceCount (m .controller))
     (hr : h .rank ≡ uppermost m .rank) (hs : h .saved ≡ uppermost m .saved) (ho : h .opened ≤ 1) where
   over-stored : Stored (m .service .stack) (m .service .depth - 1) h (sourceCount (m .controller)) (m .service .depth)
   over-stored =
-      let t = top-fine m (facts m (r .isSound)) d in
+      let t = top-fine m (facts m r) d in
       record {
         source-least = sl;
         source-most = sm;
@@ -161,7 +150,7 @@ module _ (m : Machine) (r : Ready m) (d : 0 < m .service .depth) (h : Handler) (
       }
 
   over-place : m .service .depth - 1 < length (m .service .stack)
-  over-place = omega (arith, r .places, facts m (r .isSound) .few)
+  over-place = omega (arith, facts m r .places, facts m r .few)
 
   over-fine : (j : ℕ) → j < m .service .depth → Fine (sourceCount (m .controller)) (m .service .depth) (set (m .service .stack) (m .service .depth - 1) h) j
   over-fine j l = go (eq-cases j (m .service .depth - 1))
@@ -169,21 +158,22 @@ module _ (m : Machine) (r : Ready m) (d : 0 < m .service .depth) (h : Handler) (
       go : (j ≡ m .service .depth - 1) ⊎ (j ≡ m .service .depth - 1 → ⊥) → Fine (sourceCount (m .controller)) (m .service .depth) (set (m .service .stack) (m .service .depth - 1) h) j
       go (inl e) = rw e (fine-stored (m .service .stack) (m .service .depth - 1) h (sourceCount (m .controller)) (m .service .depth) over-place over-stored)
       go (inr e) =
-          let k = facts m (r .isSound) .handlers j l in
+          let k = facts m r .handlers j l in
           fine-kept (m .service .stack) (m .service .depth - 1) h (sourceCount (m .controller)) (m .service .depth) j (omega (arith, e)) k (k .opened)
 
   over-top : handlerAt (set (m .service .stack) (m .service .depth - 1) h) (m .service .depth - 1) ≡ h
   over-top = getD-set-same (m .service .stack) (m .service .depth - 1) h blank over-place
 
 -- Open.
-opened-ready : (m : Machine) → Ready m → 0 < m .service .depth → Ready (opened m)
-opened-ready m r d =
-    let s = facts m (r .isSound) in
+opened-sound : (m : Machine) → soundOf m ≡ true → 0 < m .service .depth → soundOf (opened m) ≡ true
+opened-sound m r d =
+    let s = facts m r in
     let t = top-fine m s d in
     let q = withOpened (uppermost m) 1 in
     let e = over-top m r d q (t .source-least) (t .source-most) refl refl (omega arith) in
-    ready (opened m)
+    sound (opened m)
     (record {
+      places = simp length-set (s .places);
       few = s .few;
       bit = omega arith;
       handlers = λ j l. rw (current-count (m .controller) (uppermost m .rank)) (over-fine m r d q (t .source-least) (t .source-most) refl refl (omega arith) j l);
@@ -194,14 +184,13 @@ opened-ready m r d =
       controller = current-sound (m .controller) (s .controller) (uppermost m .rank) (t .rank-most);
       counters = s .counters;
     })
-    (simp length-set (r .places))
 
 -- Return: below the uppermost, if any, stands an opened handler of its saved rank.
-returned-top : (m : Machine) → Ready m → 0 < m .service .depth → (k : ℕ) → m .service .depth - 1 ≡ k
+returned-top : (m : Machine) → soundOf m ≡ true → 0 < m .service .depth → (k : ℕ) → m .service .depth - 1 ≡ k
     → (k ≡ 0) ⊎ ((handlerAt (m .service .stack) (k - 1) .opened ≡ 1) × (uppermost m .saved .0 ≡ handlerAt (m .service .stack) (k - 1) .rank .0))
 returned-top m r d zero e = inl refl
 returned-top m r d (suc k) e =
-    let f = facts m (r .isSound) in
+    let f = facts m r in
     let b = f .handlers k (omega arith) in
     let t = top-fine m f d in
     let j : suc k - 1 ≡ k = omega arith in
@@ -210,13 +199,14 @@ returned-top m r d (suc k) e =
       rw j (⊎-elim (λ z. absurd (omega arith)) (λ z. z ∙ ap (λ (a : Rank). a .0) (ap (belowOf (m .service .stack)) e ∙ below-next (m .service .stack) k)) (t .saves)),
     )
 
-returned-ready : (m : Machine) → Ready m → 0 < m .service .depth → Ready (returned m)
-returned-ready m r d =
-    let s = facts m (r .isSound) in
+returned-sound : (m : Machine) → soundOf m ≡ true → 0 < m .service .depth → soundOf (returned m) ≡ true
+returned-sound m r d =
+    let s = facts m r in
     let t = top-fine m s d in
     let k = returned-top m r d (m .service .depth - 1) refl in
-    ready (returned m)
+    sound (returned m)
     (record {
+      places = s .places;
       few = omega (arith, s .few);
       bit = omega arith;
       handlers = λ j l.
@@ -231,28 +221,28 @@ returned-ready m r d =
       controller = current-sound (m .controller) (s .controller) (uppermost m .saved) (saved-small m s d);
       counters = s .counters;
     })
-    (r .places)
 
 -- Chain and commit: the capture, and the uppermost handler with another source.
-captured-ready : (m : Machine) → Ready m → Ready (captured m)
-captured-ready m r =
+captured-sound : (m : Machine) → soundOf m ≡ true → soundOf (captured m) ≡ true
+captured-sound m r =
     let c = m .controller in
-    with-controller m (captureOf c (lookAt m .winner)) r (capture-sound c (facts m (r .isSound) .controller)) (capture-count c) (inr (capture-current c))
+    controller-sound m (captureOf c (lookAt m .winner)) r (capture-sound c (facts m r .controller)) (capture-count c) (inr (capture-current c))
 
-chained-ready : (m : Machine) → Ready m → 0 < m .service .depth → serves m ≡ true → Ready (chained m)
-chained-ready m r d e =
+chained-sound : (m : Machine) → soundOf m ≡ true → 0 < m .service .depth → serves m ≡ true → soundOf (chained m) ≡ true
+chained-sound m r d e =
     let c = m .controller in
-    let s = facts m (r .isSound) in
+    let s = facts m r in
     let t = top-fine m s d in
     let k = served-facts m s e .found in
-    let q = captured-ready m r in
-    let f = facts (captured m) (q .isSound) in
+    let q = captured-sound m r in
+    let f = facts (captured m) q in
     let h = withSource (uppermost m) (lookAt m .winner .source) in
     let n : lookAt m .winner .source ≤ sourceCount (captured m .controller) = rw (capture-count c) (k .winner .eligible .most) in
     let z = over-top (captured m) q d h (k .winner .eligible .least) n refl refl (t .mark) in
     let l : levelOf (uppermost (chained m)) ≡ levelOf (uppermost m) = ap levelOf z ∙ level-same h (uppermost m) refl refl refl in
-    ready (chained m)
+    sound (chained m)
     (record {
+      places = simp length-set (f .places);
       few = f .few;
       bit = f .bit;
       handlers = over-fine (captured m) q d h (k .winner .eligible .least) n refl refl (t .mark);
@@ -261,14 +251,14 @@ chained-ready m r d e =
       controller = f .controller;
       counters = f .counters;
     })
-    (simp length-set (r .places))
 
 -- Set mask.
-masked-ready : (m : Machine) → Ready m → (v : ℕ) → leb v 1 ≡ true → (eqb v 0 || isOpen m) ≡ true → Ready (withMask m v)
-masked-ready m r v l e =
-    let f = facts m (r .isSound) in
-    ready (withMask m v)
+masked-sound : (m : Machine) → soundOf m ≡ true → (v : ℕ) → leb v 1 ≡ true → (eqb v 0 || isOpen m) ≡ true → soundOf (withMask m v) ≡ true
+masked-sound m r v l e =
+    let f = facts m r in
+    sound (withMask m v)
     (record {
+      places = f .places;
       few = f .few;
       bit = leb-true v 1 l;
       handlers = f .handlers;
@@ -277,11 +267,6 @@ masked-ready m r v l e =
       controller = f .controller;
       counters = f .counters;
     })
-    (r .places)
-
--- Other counters.
-with-counters : (m : Machine) (t : Counters) → Ready m → whole.soundOf t ≡ true → Ready (withCounters m t)
-with-counters m t r e = record { isSound = counters-sound m t (r .isSound) e; places = r .places }
 
 -- A store that does not switch priord: where it is to 0x3000, it stores the priord that is there.
 pub kept-order : (m : Machine) (a v : ℕ) → switches m a v ≡ false → a ≡ 0x3000 → v % 2 ≡ priorityOrder (m .controller)
@@ -290,69 +275,69 @@ kept-order m a v f e =
     eqb-true _ _ (not-false _ g)
 
 -- The controller's own events, and those of the counters.
-module _ (m : Machine) (r : Ready m) where
+module _ (m : Machine) (r : soundOf m ≡ true) where
   is-sound-controller : pic.soundOf (m .controller) ≡ true
-  is-sound-controller = facts m (r .isSound) .controller
+  is-sound-controller = facts m r .controller
 
   -- The controller that it was given.
-  same-ready : (c : Controller) → c ≡ m .controller → Ready (withController m c)
-  same-ready c e = rw e r
+  same-sound : (c : Controller) → c ≡ m .controller → soundOf (withController m c) ≡ true
+  same-sound c e = rw e r
 
-  write-ready : (a v : ℕ) → v < 2 ^ 32 → mayWrite m a ≡ true → Ready (lifted m (csrs.csrWriteOf (m .controller) a v) .machine)
-  write-ready a v b f =
-      with-controller m _ r (csr-write-sound (m .controller) is-sound-controller a v b) (csr-write-count (m .controller) a v)
+  writes-sound : (a v : ℕ) → v < 2 ^ 32 → mayWrite m a ≡ true → soundOf (lifted m (csrs.csrWriteOf (m .controller) a v) .machine) ≡ true
+  writes-sound a v b f =
+      controller-sound m _ r (csr-write-sound (m .controller) is-sound-controller a v b) (csr-write-count (m .controller) a v)
       (⊎-elim (λ g. inr (csr-write-current (m .controller) a v (λ z. eqb-false a 0xBCC (not-true _ g) z))) (λ g. inl (eqb-true (m .service .depth) 0 g))
       (or-cases (not (eqb a 0xBCC)) (eqb (m .service .depth) 0) f))
 
-  store-ready : (a v : ℕ) → mayStore m a v ≡ true → Ready (lifted m (registers.storeOf (m .controller) a v) .machine)
-  store-ready a v f =
-      with-controller m _ r (store-sound (m .controller) is-sound-controller a v) (store-count (m .controller) a v)
+  stores-sound : (a v : ℕ) → mayStore m a v ≡ true → soundOf (lifted m (registers.storeOf (m .controller) a v) .machine) ≡ true
+  stores-sound a v f =
+      controller-sound m _ r (store-sound (m .controller) is-sound-controller a v) (store-count (m .controller) a v)
       (⊎-elim (λ g. inr (store-current (m .controller) a v (kept-order m a v (not-true _ g)))) (λ g. inl (eqb-true (m .service .depth) 0 g))
       (or-cases (not (switches m a v)) (eqb (m .service .depth) 0) f))
 
   -- Every event keeps a sound machine sound.
-  pub step-ready : (head v : ℕ) → v < 2 ^ 32 → Ready (stepOf m head v .machine)
-  step-ready head v b =
+  pub step-sound : (head v : ℕ) → v < 2 ^ 32 → soundOf (stepOf m head v .machine) ≡ true
+  step-sound head v b =
       let a = addressOf head in
-      step-cases m head v (λ k o. Ready (o .machine))
+      step-cases m head v (λ k o. soundOf (o .machine) ≡ true)
       (record {
         refuses = λ k q n. r;
         samples =
-            with-controller m _ r (sample-sound (m .controller) is-sound-controller a v) (sample-count (m .controller) a v)
+            controller-sound m _ r (sample-sound (m .controller) is-sound-controller a v) (sample-count (m .controller) a v)
             (inr (sample-current (m .controller) a v));
-        loads = same-ready _ (load-same (m .controller) a);
-        stores = λ f. store-ready a v f;
-        reads = same-ready _ (csr-read-same (m .controller) a);
+        loads = same-sound _ (load-same (m .controller) a);
+        stores = λ f. stores-sound a v f;
+        reads = same-sound _ (csr-read-same (m .controller) a);
         counter-reads = λ f. r;
-        writes = λ f. write-ready a v b f;
-        counter-writes = λ f. with-counters m _ r (written-sound (m .counters) (counters.csrAt a) v b (facts m (r .isSound) .counters));
-        takes = λ f g. taken-ready m r (λ z. let o = eqb-true (m .service .mask) 1 f in omega arith) g;
-        opens = λ f. opened-ready m r (ltb-true 0 (m .service .depth) f);
-        chains = λ f e. chained-ready m r (ltb-true 0 (m .service .depth) f) e;
-        passes = captured-ready m r;
-        returns = λ f. returned-ready m r (ltb-true 0 (m .service .depth) f);
-        masks = λ f g. masked-ready m r v f g;
-        clocks = with-counters m _ r (clock-sound (m .counters) (facts m (r .isSound) .counters));
-        errors = λ f. with-counters m _ r (error-sound (m .counters) a (facts m (r .isSound) .counters));
+        writes = λ f. writes-sound a v b f;
+        counter-writes = λ f. counters-sound m _ r (written-sound (m .counters) (counters.csrAt a) v b (facts m r .counters));
+        takes = λ f g. taken-sound m r (λ z. let o = eqb-true (m .service .mask) 1 f in omega arith) g;
+        opens = λ f. opened-sound m r (ltb-true 0 (m .service .depth) f);
+        chains = λ f e. chained-sound m r (ltb-true 0 (m .service .depth) f) e;
+        passes = captured-sound m r;
+        returns = λ f. returned-sound m r (ltb-true 0 (m .service .depth) f);
+        masks = λ f g. masked-sound m r v f g;
+        clocks = counters-sound m _ r (clock-sound (m .counters) (facts m r .counters));
+        errors = λ f. counters-sound m _ r (error-sound (m .counters) a (facts m r .counters));
         looks = r;
-        commits = λ f e. chained-ready m r (ltb-true 0 (m .service .depth) f) e;
+        commits = λ f e. chained-sound m r (ltb-true 0 (m .service .depth) f) e;
       })
 
 -- Power-on is sound, also with an N that it refuses.
-pub power-on-ready : (n : ℕ) → Ready (powerOnOf n .machine)
+pub power-on-sound : (n : ℕ) → soundOf (powerOnOf n .machine) ≡ true
 unfolding powerOnOf
-power-on-ready n =
-    ready (powerOnOf n .machine)
+power-on-sound n =
+    sound (powerOnOf n .machine)
     (record {
+      places = refl;
       few = omega arith;
       bit = omega arith;
       handlers = λ j l. absurd (omega arith);
       current = inl refl;
       masked = inl refl;
-      controller = power-on-sound n;
+      controller = controllers.power-on-sound n;
       counters = reset-sound;
     })
-    refl
 
 -- It has no handler.
 pub power-on-empty : (n : ℕ) → powerOnOf n .machine .service .depth ≡ 0

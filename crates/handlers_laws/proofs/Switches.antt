@@ -24,7 +24,7 @@ use Rattle.handlers.specs.Calls.{storeOf}
 use Rattle.handlers_laws.specs.Switches.{StoreQuestions, withOrder, OrderStored, OrderSwitched, PowerOnSwitched, StoreKeepsCurrent, CurrentKept}
 use Rattle.handlers_laws.proofs.Cases.{step-cases}
 use Rattle.handlers_laws.proofs.Facts.{facts, controller-sound}
-use Rattle.handlers_laws.proofs.Kept.{kept-order, power-on-ready, power-on-empty}
+use Rattle.handlers_laws.proofs.Kept.{kept-order, power-on-sound, power-on-empty}
 
 -- 24 is asked of 0x3000 alone, which is below 0x8000 and a multiple of 4, so the controller's questions come before it.
 pub store-questions : StoreQuestions
@@ -79,7 +79,7 @@ unfolding powerOnOf
 power-on-switched n =
     let m = powerOnOf n .machine in
     let k : storeOf m 0x3000 1 ≡ accepted (withOrder m 1) 0 =
-    order-stored m 1 (power-on-ready n .isSound) .no-handler (λ z. let o = power-on-order n in omega (arith, z, o)) (power-on-empty n) in
+    order-stored m 1 (power-on-sound n) .no-handler (λ z. let o = power-on-order n in omega (arith, z, o)) (power-on-empty n) in
     record { accepts = ap (λ (o : Outcome). o .refusal) k; ranks = rw k (power-on-ranks n) }
 
 pub store-keeps-current : StoreKeepsCurrent

@@ -3,7 +3,6 @@
 use Prim.Native.Nat.{ℕ, _+_, _*_, _<_}
 use mathlib.Core.Path.{_≡_}
 use mathlib.Core.Bool.{Bool, true, cond, _&&_}
-use lib.ListN.{length}
 use lib.Dec.{eqb}
 use Rattle.event.specs.Kinds as kind
 use Rattle.event.specs.Event.{kindOf, addressOf}
@@ -43,7 +42,7 @@ pub record Tells (m : Machine) (s : ℕ) : Type 0 where
   pub winner : (s ≡ 0 → ⊥) → HasWinner (m .controller) (sourceCount (m .controller)) (record { source = s; rank = uppermost m .rank })
   pub above : (s ≡ 0 → ⊥) → thresholdOf (m .controller .scalars) .0 < uppermost m .rank .0
   pub answers : (s ≡ 0 → ⊥) → chainOf m .answer ≡ m .controller .scalars .base + 4 * s
-  pub replaces : (s ≡ 0 → ⊥) → length (m .service .stack) ≡ 15 → uppermost (chainOf m .machine) .source ≡ s
+  pub replaces : (s ≡ 0 → ⊥) → uppermost (chainOf m .machine) .source ≡ s
 
 abbrev pub LookTells : Type 0
 LookTells = (m : Machine) → soundOf m ≡ true → lookOf m .refusal ≡ 0 → Tells m (lookOf m .answer)

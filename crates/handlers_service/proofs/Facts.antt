@@ -3,7 +3,7 @@ use Prim.Native.Nat.{ℕ, _≤_, _<_}
 use mathlib.Core.Path.{_≡_}
 use mathlib.Core.Bool.{true}
 use mathlib.Core.Logic.{_⊎_, inl, inr, ⊎-elim}
-use lib.ListN.{getD}
+use lib.ListN.{length, getD}
 use lib.Dec.{eqb}
 use borrow.Author.Tests.{leb-true, eqb-true, le-leb, eq-eqb}
 use Rattle.pic_source.specs.declared.Rank.{Rank}
@@ -14,6 +14,7 @@ use Rattle.handlers_service.specs.declared.Service.{Service}
 use Rattle.handlers_service.specs.Sound.{uppermost, isOpen, soundTests, soundOf}
 
 pub record Sound (s : Service) (n : ℕ) (r : Rank) : Type 0 where
+  pub places : length (s .stack) ≡ 15
   pub few : s .depth ≤ 15
   pub bit : s .mask ≤ 1
   pub handlers : (j : ℕ) → j < s .depth → Fine n (s .depth) (s .stack) j
@@ -34,13 +35,14 @@ pub facts : (s : Service) (n : ℕ) (r : Rank) → soundOf s n r ≡ true → So
 unfolding soundOf
 facts s n r e =
     record {
-      few = leb-true _ _ (t 0);
-      bit = leb-true _ _ (t 1);
-      handlers = each n (s .depth) (s .stack) (s .depth) (t 2);
+      places = eqb-true _ _ (t 0);
+      few = leb-true _ _ (t 1);
+      bit = leb-true _ _ (t 2);
+      handlers = each n (s .depth) (s .stack) (s .depth) (t 3);
       current =
           ⊎-elim (λ f. inl (eqb-true (s .depth) 0 f)) (λ f. inr (eqb-true _ _ f))
-          (or-cases (eqb (s .depth) 0) (eqb (r .0) (levelOf (uppermost s) .0)) (t 3));
-      masked = ⊎-elim (λ f. inl (eqb-true (s .mask) 0 f)) (λ f. inr (open-cases s f)) (or-cases (eqb (s .mask) 0) (isOpen s) (t 4));
+          (or-cases (eqb (s .depth) 0) (eqb (r .0) (levelOf (uppermost s) .0)) (t 4));
+      masked = ⊎-elim (λ f. inl (eqb-true (s .mask) 0 f)) (λ f. inr (open-cases s f)) (or-cases (eqb (s .mask) 0) (isOpen s) (t 5));
     }
   where
     t : (i : ℕ) → getD (soundTests s n r) i true ≡ true
@@ -50,6 +52,7 @@ pub sound : (s : Service) (n : ℕ) (r : Rank) → Sound s n r → soundOf s n r
 unfolding soundOf
 sound s n r f =
     rw (
+      eq-eqb (length (s .stack)) 15 (f .places),
       le-leb (s .depth) 15 (f .few),
       le-leb (s .mask) 1 (f .bit),
       each-back n (s .depth) (s .stack) (s .depth) (f .handlers),

@@ -2,7 +2,7 @@
 use Prim.Native.Nat.{ℕ}
 use mathlib.Core.Bool.{Bool, _||_}
 use mathlib.Core.List.{List, [], _∷_}
-use lib.ListN.{replicate}
+use lib.ListN.{length, replicate}
 use lib.Dec.{leb, eqb}
 use Rattle.pic_source.specs.declared.Rank.{Rank}
 use Rattle.pic_source.specs.Tests.{allHold}
@@ -30,10 +30,11 @@ isOpen s = eqb (s .depth) 0 || eqb (uppermost s .opened) 1
 abbrev pub maskFits : Service → Bool
 maskFits s = eqb (s .mask) 0 || isOpen s
 
--- A stack of at most 15 handlers; mask 0 or 1; what is said of each handler, with n sources; current and mask fit the uppermost.
+-- The stack has fifteen places and at most 15 handlers; mask 0 or 1; what is said of each handler, with n sources; current and mask fit the uppermost.
 abbrev pub soundTests : Service → ℕ → Rank → List Bool
 soundTests s n current =
-    leb (s .depth) 15
+    eqb (length (s .stack)) 15
+    ∷ leb (s .depth) 15
     ∷ leb (s .mask) 1
     ∷ handlersSound n (s .depth) (s .stack) (s .depth)
     ∷ currentFits s current

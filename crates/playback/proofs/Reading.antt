@@ -24,9 +24,9 @@ use Rattle.record.proofs.Answers.{read-not}
 use Rattle.record.proofs.Parts.{read-parts, values-below}
 use Rattle.record.proofs.Words.{Below}
 use Rattle.handlers.specs.Machines.{powerOnOf, soundOf}
-use Rattle.handlers_laws.proofs.Kept.{power-on-ready}
+use Rattle.handlers_laws.proofs.Kept.{power-on-sound}
 use Rattle.claims.specs.Play.{endOf}
-use Rattle.claims.proofs.Playing.{end-ready}
+use Rattle.claims.proofs.Playing.{played-sound}
 use Rattle.record.proofs.TooLong.{read-cut, long-refused}
 use Rattle.digits.specs.Ascii.{ascii}
 use Rattle.playback.specs.Print.{KnownKinds, printWithin, playedLines, refusedLine, roomFor, printedLength, printedInto}
@@ -169,4 +169,4 @@ print-not-empty limits bytes = go (allYes (verdictWithin limits bytes))
 
 -- The machine of the last line is sound, so its margin is the query's answer and no refusal.
 pub end-sound : (bytes : List ℕ) → Below 256 bytes → soundOf (endOf (powerOnOf (sourcesOf bytes) .machine) (headsOf bytes) (valuesOf bytes)) ≡ true
-end-sound bytes b = end-ready (powerOnOf (sourcesOf bytes) .machine) (power-on-ready (sourcesOf bytes)) (headsOf bytes) (valuesOf bytes) (values-below bytes b) .isSound
+end-sound bytes b = played-sound (powerOnOf (sourcesOf bytes) .machine) (power-on-sound (sourcesOf bytes)) (headsOf bytes) (valuesOf bytes) (values-below bytes b)

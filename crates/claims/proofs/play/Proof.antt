@@ -2,13 +2,14 @@ use lib.ListN.{length-set}
 use Rattle.claims.proofs.Playing.{machine-end, played-end, stored-end}
 use Prim.Native.Nat.{ℕ, _≤_, _<_, _-_}
 use mathlib.Core.Path.{_≡_, refl, ap, _∙_}
+use mathlib.Core.Bool.{true}
 use native.Mathlib.Omega.{arith}
 use lib.ListN.{length, take}
 use Rattle.buffers.specs.Filled.{filled}
 use borrow.Author.Needs.{scaled-fits}
 use Rattle.handlers.specs.declared.Outcome.{Outcome}
-use Rattle.handlers.specs.Machines.{powerOnOf}
-use Rattle.handlers_laws.proofs.Kept.{Ready, step-ready, power-on-ready}
+use Rattle.handlers.specs.Machines.{soundOf, powerOnOf}
+use Rattle.handlers_laws.proofs.Kept.{step-sound, power-on-sound}
 use Rattle.handlers_laws.proofs.Checks.{outcomeOf, checked-step, start-machine, start-refusal}
 use Rattle.claims.specs.Play.{endOf, eachOf, answersOf, refusalsOf}
 use Rattle.claims.proofs.Playing.{Fits, count-fits, machine-turn, stored-turn, claimed}
@@ -25,7 +26,7 @@ Inv-loop n heads values answers₀ refusals₀ on m₀ k i₀ answers refusals m
     × (m .machine ≡ endOf (powerOnOf n .machine) (take i heads) (take i values))
     × (answers ≡ filled (answersOf (powerOnOf n .machine) (take i heads) (take i values)) answers₀)
     × (refusals ≡ filled (refusalsOf (powerOnOf n .machine) (take i heads) (take i values)) refusals₀)
-    × Ready (m .machine)
+    × (soundOf (m .machine) ≡ true)
 
 abbrev μ-loop : tie.MeasureT-loop
 μ-loop n heads values answers₀ refusals₀ on m₀ k i₀ answers refusals m i = k - i
@@ -70,7 +71,7 @@ loop-holds c =
       e,
       refl,
       refl,
-      rw e (power-on-ready n),
+      rw e (power-on-sound n),
     )
 
 mul-step : tie.Need-mul-step Inv-loop μ-loop
@@ -107,7 +108,7 @@ loop-again : tie.Need-loop-again Inv-loop μ-loop
 loop-again c =
     let v = c .before .before .before .before .before .loop .inv in
     let p = inside _ _ _ _ _ _ (c .before .before .before .before .loop-test .taken) (v .1) in
-    let o = ap outcomeOf (c .before .step .ensures) ∙ checked-step _ _ _ (v .7 .isSound) in (
+    let o = ap outcomeOf (c .before .step .ensures) ∙ checked-step _ _ _ (v .7) in (
       omega (arith, c .before .before .before .before .loop-test .taken),
       v .1,
       simp length-set (v .2),
@@ -115,7 +116,7 @@ loop-again c =
       machine-turn _ _ _ _ (p .heads) (p .values) (v .4) o,
       stored-turn _ _ _ _ (p .heads) (p .values) (v .4) (λ (o : Outcome). o .answer) _ o (p .answers) (v .5),
       stored-turn _ _ _ _ (p .heads) (p .values) (v .4) (λ (o : Outcome). o .refusal) _ o (p .refusals) (v .6),
-      rw (ap (λ (o : Outcome). o .machine) o) (step-ready _ (v .7) _ _ (c .before .before .before .before .before .before .before .before .before .before .before .before .before .shared-slice-known2 .given _ .fits)),
+      rw (ap (λ (o : Outcome). o .machine) o) (step-sound _ (v .7) _ _ (c .before .before .before .before .before .before .before .before .before .before .before .before .before .shared-slice-known2 .given _ .fits)),
     )
 
 leave-requires : tie.Need-leave-requires Inv-loop μ-loop
