@@ -41,13 +41,14 @@ impl Checked {
     }
 
     // One event, a head and a value.
-    pub fn step(self, head: u32, value: u32) -> CheckedOutcome
+    pub fn step(mut self, head: u32, value: u32) -> CheckedOutcome
         ensures { λ r. ⌜ r ≡ checkedStepOf self head value ⌝ }
     {
         let out = self.machine.sound_step(head, value);
         let next = out.machine;
+        self.machine = next;
         CheckedOutcome {
-            checked: Checked { machine: next },
+            checked: self,
             answer: out.answer,
             refusal: out.refusal,
         }
