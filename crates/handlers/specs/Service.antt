@@ -1,7 +1,7 @@
 -- Document 01, "Handler service", and the questions 12 to 21; document 02, No. 1, No. 4, No. 5 and No. 7: what each event does and answers, once question 8 is answered yes. The rules are
 -- total: on a machine that is not sound they say what the code does, and question 8 keeps that from every caller.
-use Prim.Native.Nat.{ℕ, _%_}
-use mathlib.Core.Bool.{Bool, cond, not, _&&_, _||_}
+use Prim.Native.Nat.{ℕ}
+use mathlib.Core.Bool.{Bool, cond}
 use lib.Dec.{eqb}
 use Rattle.event.specs.Kinds as kind
 use Rattle.event.specs.Event.{kindOf, addressOf, shapeOf}
@@ -16,6 +16,7 @@ use Rattle.counters.specs.Whole as whole
 use Rattle.counters.specs.Csrs as counters
 use Rattle.handlers_service.specs.declared.Outcome as handler
 use Rattle.handlers_service.specs.Events as service
+use Rattle.handlers_service.specs.Questions as questions
 use Rattle.handlers.specs.declared.Machine.{Machine}
 use Rattle.handlers.specs.declared.Outcome.{Outcome}
 use Rattle.handlers.specs.Fields.{withController, withService, withCounters}
@@ -44,12 +45,12 @@ sampleEvent m x v = lifted m (registers.sampleOf (m .controller) x v)
 unfoldable pub loadEvent : Machine → ℕ → Outcome
 loadEvent m offset = lifted m (registers.loadOf (m .controller) offset)
 
--- Document 02, No. 4: "24 when a store to 0x3000 would change priord while a handler is open". It would where bit 0 of the value differs from priord.
+-- Document 02, No. 4: "24 when a store to 0x3000 would change priord while a handler is open".
 abbrev pub switches : Machine → ℕ → ℕ → Bool
-switches m offset v = eqb offset 0x3000 && not (eqb (v % 2) (priorityOrder (m .controller)))
+switches m offset v = questions.switches offset v (priorityOrder (m .controller))
 
 abbrev pub mayStore : Machine → ℕ → ℕ → Bool
-mayStore m offset v = not (switches m offset v) || eqb (m .service .depth) 0
+mayStore m offset v = questions.mayStore offset v (priorityOrder (m .controller)) (m .service .depth)
 
 -- Store: 24 and the controller's own. 24 is asked of 0x3000 alone, to which 10 and 11 answer yes, so its place after them is the same (`StoreQuestions`).
 unfoldable pub storeEvent : Machine → ℕ → ℕ → Outcome
@@ -65,7 +66,7 @@ csrReadEvent m a = cond (ofCounters a) (accepted m (counters.csrValue (m .counte
 
 -- 14. Write to 0xBCC: is no handler open?
 abbrev pub mayWrite : Machine → ℕ → Bool
-mayWrite m a = not (eqb a 0xBCC) || eqb (m .service .depth) 0
+mayWrite m a = questions.mayWrite a (m .service .depth)
 
 -- A write to a CSR of the controller: 14 and the controller's own. 14 is asked of 0xBCC alone, to which 12 and 13 answer yes, so its place among them is the
 -- same.

@@ -10,6 +10,8 @@ use counters::Counters;
 use counters::csrs::csr_at;
 use counters::csrs::is_csr;
 use event::kinds;
+use handlers_service::questions::may_store;
+use handlers_service::questions::may_write;
 use pic::Controller;
 
 impl Machine {
@@ -58,8 +60,7 @@ impl Machine {
         ensures { λ r. ⌜ r ≡ storeEvent self offset v ⌝ }
     {
         let c = self.controller;
-        let order = c.priority_order() as u32;
-        if (offset == 0x3000) & (v % 2 != order) & (self.service.depth != 0) {
+        if !may_store(offset, v, c.priority_order(), self.service.depth) {
             return self.refuse(24);
         }
         self.lift(pic_registers::store(c, offset, v))
@@ -92,7 +93,7 @@ impl Machine {
     fn controller_write(self, address: u32, v: u32) -> Outcome
         ensures { λ r. ⌜ r ≡ controllerWrite self address v ⌝ }
     {
-        if (address == 0xBCC) & (self.service.depth != 0) {
+        if !may_write(address, self.service.depth) {
             return self.refuse(14);
         }
         let c = self.controller;

@@ -1,0 +1,9 @@
+use mathlib.Core.Path.{refl}
+use Rattle.handlers_service.proofs.questions.may_store.Statement.{statement}
+use Rattle.handlers_service.proofs.questions.may_store.Tie as tie
+
+returns : tie.Need-returns
+returns c = refl
+
+pub may-store-spec : {M : Type 1} → statement M
+may-store-spec = tie.close (tie.spec returns)
