@@ -1,9 +1,9 @@
 -- Document 02, No. 5: "One proof serves the three." What is said of one error counter, and of each of the three by its number.
-use Prim.Native.Nat.{ℕ, _+_, _-_, _/_, _%_, _^_, _≤_, _<_}
+use Prim.Native.Nat.{ℕ, zero, suc, _+_, _-_, _*_, _/_, _%_, _^_, _≤_, _<_}
 use mathlib.Core.Path.{_≡_}
 use Rattle.counters_errors.specs.declared.ErrorCounter.{ErrorCounter}
 use Rattle.counters_errors.specs.declared.ErrorCounters.{ErrorCounters}
-use Rattle.counters_errors.specs.Errors.{thresholdIn, countIn, counterOf, heldOf, counted, errorAt, resetErrors, afterError, errorRefused, errorCounted, errorOf}
+use Rattle.counters_errors.specs.Errors.{thresholdIn, countIn, counterOf, heldOf, counted, selectedBit, errorAt, resetErrors, afterError, errorRefused, errorCounted, errorOf}
 
 -- A counter has the threshold and the count that it was made of, and no other counter has them.
 pub record HasParts (e : ErrorCounter) (t n : ℕ) : Type 0 where
@@ -35,6 +35,33 @@ pub record Counts (e : ErrorCounter) : Type 0 where
 
 abbrev pub CountsEach : Type 0
 CountsEach = (e : ErrorCounter) → Counts e
+
+-- "The answer is 1 when the count bit that the threshold selects is 1 afterwards, else 0." With threshold t that is told by the count afterwards modulo 2^(t + 1):
+-- 0 where it is below 2^t, 1 where it is 2^t or more.
+pub record Answers (e : ErrorCounter) : Type 0 where
+  pub zeros : countIn (counted e) % 2 ^ (thresholdIn e + 1) < 2 ^ thresholdIn e → selectedBit (counted e) ≡ 0
+  pub ones : 2 ^ thresholdIn e ≤ countIn (counted e) % 2 ^ (thresholdIn e + 1) → selectedBit (counted e) ≡ 1
+
+abbrev pub AnswersEach : Type 0
+AnswersEach = (e : ErrorCounter) → Answers e
+
+-- A counter after errors in a row.
+abbrev pub afterErrors : ℕ → ErrorCounter → ErrorCounter
+afterErrors zero e = e
+afterErrors (suc i) e = counted (afterErrors i e)
+
+-- What error number i, counted from 1, answers in a counter that had threshold t and count 0; for 0 the bit before them.
+abbrev pub answerTo : ℕ → ℕ → ℕ
+answerTo t i = selectedBit (afterErrors i (counterOf t 0))
+
+-- So the answers come in runs: errors 1 to 2^t − 1 answer 0, the next 2^t answer 1, the next 2^t answer 0, and so on, also after the count has come to 0 again. (Document 004 says
+-- of the signal that "it stays pending for 2^thresh errors".)
+pub record Runs (t : ℕ) : Type 0 where
+  pub zeros : (k j : ℕ) → j < 2 ^ t → answerTo t (2 * k * 2 ^ t + j) ≡ 0
+  pub ones : (k j : ℕ) → j < 2 ^ t → answerTo t ((2 * k + 1) * 2 ^ t + j) ≡ 1
+
+abbrev pub AnswersInRuns : Type 0
+AnswersInRuns = (t : ℕ) → t ≤ 26 → Runs t
 
 -- One error in counter i: it is counted there, the other two stay, and the answer is the counter's bit afterwards.
 pub record CountedOne (c : ErrorCounters) (i : ℕ) : Type 0 where
