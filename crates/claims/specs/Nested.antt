@@ -99,7 +99,7 @@ abbrev pub lastOf : ℕ → List Event → Machine
 lastOf n es = claim.end eh1 (powerOnOf n .machine) es
 
 -- The claim about a list of events from power-on with N.
-pub record Nesting (n : ℕ) (es : List Event) : Type 0 where
+pub record NestedFrom (n : ℕ) (es : List Event) : Type 0 where
   -- "Demand 3 is a single claim about the whole list."
   pub nested : claim.Nested eh1 (powerOnOf n .machine) es
   -- "Its words": own returns, open handlers and chainings as the claim finds them in the list are what the sentences say.
@@ -109,7 +109,7 @@ pub record Nesting (n : ℕ) (es : List Event) : Type 0 where
 
 -- Demand 3: for every N, also one that power-on refuses, and every list of events; so it holds after every event of a list.
 abbrev pub Demand3 : Type 0
-Demand3 = (n : ℕ) (es : List Event) → Nesting n es
+Demand3 = (n : ℕ) (es : List Event) → NestedFrom n es
 
 -- The events of two lists, heads beside values.
 abbrev pub eventsOf : List ℕ → List ℕ → List Event
@@ -130,7 +130,7 @@ refusalsIn = eachIn (λ (a : Answer). a .refusal)
 -- The claim about a list that was played from power-on with N to a machine.
 pub record Claimed (n : ℕ) (heads values : List ℕ) (m : Machine) : Type 0 where
   -- Demand 3 for this list.
-  pub nesting : Nesting n (eventsOf heads values)
+  pub nesting : NestedFrom n (eventsOf heads values)
   -- "The first event gets the machine that power-on handed back, each later one the machine that the event before it handed back": the machine is the
   -- last of these, and the answers and refusals are those that the claim speaks of.
   pub ends : m ≡ lastOf n (eventsOf heads values)
