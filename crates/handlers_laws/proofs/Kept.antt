@@ -17,8 +17,6 @@ use Rattle.pic.specs.Sound as pic
 use Rattle.pic.specs.Calls.{sourceCount, priorityOrder, currentRank, captureOf}
 use Rattle.pic_registers.specs.Calls as registers
 use Rattle.pic_csrs.specs.Calls as csrs
-use Rattle.counters.specs.declared.Counters.{Counters}
-use Rattle.counters.specs.Whole as whole
 use Rattle.counters.specs.Csrs as counters
 use Rattle.counters.proofs.Soundness.{reset-sound, clock-sound, error-sound}
 use Rattle.counters.proofs.Writes.{written-sound}
@@ -31,7 +29,7 @@ use Rattle.handlers_stack.specs.Stacks.{blank, handlerAt, belowOf, levelOf}
 use Rattle.handlers_stack.proofs.Stacks.{Fine, Stored, fine-kept, fine-stored, fine-popped, below-next, level-opened, level-unopened, level-same}
 use Rattle.handlers_service.proofs.Facts.{open-cases}
 use Rattle.handlers.specs.declared.Machine.{Machine}
-use Rattle.handlers.specs.Fields.{withController, withCounters}
+use Rattle.handlers.specs.Fields.{withController}
 use Rattle.handlers.specs.Machines.{uppermost, soundOf, powerOnOf}
 use Rattle.handlers.specs.Service.{lifted, switches, mayStore, mayWrite, lookAt, captured}
 use Rattle.handlers.specs.Calls.{stepOf}
