@@ -14,6 +14,9 @@
 extern "C" {
 #endif
 
+/* Up to which request of document 02 the rules are. ./play --version says it too. */
+#define VEER_EH1_RULES 8
+
 /* The bytes of the longest record, 8 + 8 * VEER_EH1_EVENTS_MAX. Anything longer is refused. */
 #define VEER_EH1_RECORD_MAX 32008
 
