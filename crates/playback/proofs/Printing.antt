@@ -6,26 +6,60 @@ use native.Mathlib.Numerals.{add-one}
 use mathlib.Core.Path.{_≡_, refl, sym, ap, _∙_}
 use mathlib.Core.List.{List, [], _∷_, _++_, append-assoc, append-nil}
 use lib.ListN.{length, getD, take, length-append}
-use lib.Seq.{sets, length-sets, take-all}
+use lib.Seq.{length-sets, take-all}
 use Rattle.digits.specs.Digits.{decimal}
+use Rattle.digits.proofs.Digits.{digits-most}
 use Rattle.digits.proofs.Meaning.{digits-length}
-use Rattle.digits.proofs.Pieces.{Stands, two, stands-as}
+use Rattle.digits.proofs.Pieces.{Stands, two, room-second, stands-as}
 use Rattle.event.specs.Event.{kindOf}
 use Rattle.event.proofs.Laws.{kinds-two-digits}
 use Rattle.digits.specs.Ascii.{ascii}
 use Rattle.record.specs.Record.{mostEvents}
-use Rattle.playback.specs.Size.{eventLineSize}
+use Rattle.playback.specs.Size.{eventLineSize, anyLineSize}
 use Rattle.playback.specs.Print.{eventLine, eventLines, KnownKinds}
 
--- A number below a power of ten has at most so many digits.
-pub digits-of : (n k : ℕ) → n < 10 ^ suc k → length (decimal n) ≤ suc k
+-- A number has at most twenty digits, and one below a power of ten at most so many.
+pub number-length : (n : ℕ) → length (decimal n) ≤ 20
+number-length n = digits-most 10 1 20 n
+
+digits-of : (n k : ℕ) → n < 10 ^ suc k → length (decimal n) ≤ suc k
 digits-of n k h = digits-length 10 1 20 n k (omega arith) h (omega arith)
 
--- The line of an event of an accepted record has at most so many bytes.
-pub line-length : (i k a r : ℕ) → i < 10000 → k < 100 → a < 4294967296 → r < 256 → length (eventLine i k a r) ≤ eventLineSize
+-- Numbers below a bound.
+abbrev pub Each : ℕ → List ℕ → Type 0
+Each bound l = (i : ℕ) → getD l i 0 < bound
+
+-- The line of an event, by the most digits of its index and its kind.
+pub line-length : (most-i most-k i k a r : ℕ) → length (decimal i) ≤ most-i → length (decimal k) ≤ most-k → a < 4294967296 → r < 256
+    → length (eventLine i k a r) ≤ most-i + 1 + most-k + 1 + 10 + 1 + 3 + 1
 unfolding ascii
-line-length i k a r hi hk ha hr =
-    simp (length-append) (omega (arith, digits-of i 3 hi, digits-of k 1 hk, digits-of a 9 (omega arith), digits-of r 2 (omega arith)))
+line-length most-i most-k i k a r hi hk ha hr = simp (length-append) (omega (arith, hi, hk, digits-of a 9 (omega arith), digits-of r 2 (omega arith)))
+
+-- The lines, by the most bytes of each.
+lines-most : (size j : ℕ) (hs ans rs : List ℕ)
+    → ((i : ℕ) → i < length hs → length (eventLine (j + i) (kindOf (getD hs i 0)) (getD ans i 0) (getD rs i 0)) ≤ size)
+    → length (eventLines j hs ans rs) ≤ size * length hs
+unfolding eventLines
+lines-most size j [] ans rs h = omega arith
+lines-most size j (x ∷ hs) [] rs h = omega arith
+lines-most size j (x ∷ hs) (a ∷ ans) [] h = omega arith
+lines-most size j (x ∷ hs) (a ∷ ans) (r ∷ rs) h =
+    let line : length (eventLine j (kindOf x) a r) ≤ size = rw (add-zero j) at (h 0 (omega arith)) in
+    let rest = lines-most size (suc j) hs ans rs (λ i l. rw (add-suc j i, ← suc-add j i) at (h (suc i) (omega arith))) in
+    rw (length-append (eventLine j (kindOf x) a r) (eventLines (suc j) hs ans rs)) (omega (arith, line, rest))
+
+-- Of an accepted record, and of any heads.
+pub known-lines : (hs ans rs : List ℕ) → length hs ≤ mostEvents → KnownKinds hs → Each 4294967296 ans → Each 256 rs
+    → length (eventLines 0 hs ans rs) ≤ eventLineSize * length hs
+known-lines hs ans rs few known ha hr =
+    lines-most eventLineSize 0 hs ans rs
+    (λ i l. line-length 4 2 (0 + i) (kindOf (getD hs i 0)) (getD ans i 0) (getD rs i 0) (digits-of (0 + i) 3 (omega arith)) (digits-of (kindOf (getD hs i 0)) 1 (omega (arith, known i l, kinds-two-digits))) (ha i) (hr i))
+
+pub any-lines : (hs ans rs : List ℕ) → ((i : ℕ) → i < length hs → getD hs i 0 < 4294967296) → Each 4294967296 ans → Each 256 rs
+    → length (eventLines 0 hs ans rs) ≤ anyLineSize * length hs
+any-lines hs ans rs hh ha hr =
+    lines-most anyLineSize 0 hs ans rs
+    (λ i l. line-length 20 5 (0 + i) (kindOf (getD hs i 0)) (getD ans i 0) (getD rs i 0) (number-length (0 + i)) (digits-of (kindOf (getD hs i 0)) 4 (omega (arith, hh i l))) (ha i) (hr i))
 
 -- One more line.
 pub lines-more : (j i : ℕ) (hs ans rs : List ℕ) → i < length hs → i < length ans → i < length rs
@@ -44,78 +78,63 @@ lines-more j (suc i) (x ∷ hs) (a ∷ ans) (r ∷ rs) h₁ h₂ h₃ =
     (ap (λ (l : List ℕ). eventLine j (kindOf x) a r ++ l) (lines-more (suc j) i hs ans rs l₁ l₂ l₃)
     ∙ sym (append-assoc (eventLine j (kindOf x) a r) (eventLines (suc j) (take i hs) ans rs) line))
 
+-- The first lines are no longer than all.
+lines-part : (j i : ℕ) (hs ans rs : List ℕ) → length (eventLines j (take i hs) ans rs) ≤ length (eventLines j hs ans rs)
+unfolding eventLines
+lines-part j zero hs ans rs = omega arith
+lines-part j (suc i) [] ans rs = omega arith
+lines-part j (suc i) (x ∷ hs) [] rs = omega arith
+lines-part j (suc i) (x ∷ hs) (a ∷ ans) [] = omega arith
+lines-part j (suc i) (x ∷ hs) (a ∷ ans) (r ∷ rs) = simp (length-append) (omega (arith, lines-part (suc j) i hs ans rs))
+
 -- What is known while the lines are put: i of them stand.
 pub record Printed (out₀ : List ℕ) (at : ℕ) (hs ans rs out : List ℕ) (next i : ℕ) : Type 0 where
-  pub few : length hs ≤ mostEvents
   pub answers : length hs ≤ length ans
   pub refusals : length hs ≤ length rs
-  pub room : at + eventLineSize * length hs ≤ length out₀
-  pub kinds : KnownKinds hs
+  pub room : at + length (eventLines 0 hs ans rs) ≤ length out₀
   pub same : length out ≡ length out₀
   pub turn : i ≤ length hs
-  pub most : next ≤ at + eventLineSize * i
   pub stands : Stands out₀ at (eventLines 0 (take i hs) ans rs) next out
 
 pub none-printed : (out : List ℕ) (at : ℕ) (hs ans rs : List ℕ)
-    → (length hs ≤ mostEvents) × (length hs ≤ length ans) × (length hs ≤ length rs) × (at + eventLineSize * length hs ≤ length out) × KnownKinds hs
+    → (length hs ≤ length ans) × (length hs ≤ length rs) × (at + length (eventLines 0 hs ans rs) ≤ length out)
     → Printed out at hs ans rs out at 0
 unfolding eventLines
-none-printed out at hs ans rs (a, b, c, d, e) =
-    record {
-      few = a;
-      answers = b;
-      refusals = c;
-      room = d;
-      kinds = e;
-      same = refl;
-      turn = omega arith;
-      most = omega arith;
-      stands = (sym (add-zero at), refl);
-    }
+none-printed out at hs ans rs (a, b, c) =
+    record { answers = a; refusals = b; room = c; same = refl; turn = omega arith; stands = (sym (add-zero at), refl) }
 
-module _ {out₀ : List ℕ} {at : ℕ} {hs ans rs out : List ℕ} {next i : ℕ} (p : Printed out₀ at hs ans rs out next i) (h : i < length hs) where
-  -- The next line is short, and there is room for it.
-  short : {k a r : ℕ} → k ≡ kindOf (getD hs i 0) → a < 4294967296 → r < 256 → length (eventLine i k a r) ≤ eventLineSize
-  short {k} {a} {r} e ha hr =
-      let hk : k < 100 = omega (arith, e, p .kinds i h, kinds-two-digits) in
-      let hi : i < 10000 = omega (arith, p .few) in
-      line-length i k a r hi hk ha hr
+module _ {out₀ : List ℕ} {at : ℕ} {hs ans rs out : List ℕ} {next i : ℕ} (p : Printed out₀ at hs ans rs out next i) (h : i < length hs) {k : ℕ} (e : k ≡ kindOf (getD hs i 0)) where
+  -- The lines with the next one.
+  next-line : eventLines 0 (take i hs) ans rs ++ eventLine i k (getD ans i 0) (getD rs i 0) ≡ eventLines 0 (take (suc i) hs) ans rs
+  next-line =
+      let line-of : ℕ → ℕ → List ℕ = λ j x. eventLines 0 (take i hs) ans rs ++ eventLine j x (getD ans i 0) (getD rs i 0) in
+      ap (λ (x : ℕ). line-of i x) e ∙ ap (λ (j : ℕ). line-of j (kindOf (getD hs i 0))) (sym (zero-add i))
+      ∙ sym (lines-more 0 i hs ans rs h (omega (arith, p .answers)) (omega (arith, p .refusals)))
 
-  pub line-room : {k a r : ℕ} → k ≡ kindOf (getD hs i 0) → a < 4294967296 → r < 256 → next + length (eventLine i k a r) ≤ length out
-  line-room e ha hr = omega (arith, short e ha hr, p .room, p .same, p .most)
+  -- There is room for it.
+  pub line-room : next + length (eventLine i k (getD ans i 0) (getD rs i 0)) ≤ length out
+  line-room =
+      let part : length (eventLines 0 (take i hs) ans rs ++ eventLine i k (getD ans i 0) (getD rs i 0)) ≤ length (eventLines 0 hs ans rs) = rw next-line (lines-part 0 (suc i) hs ans rs) in
+      room-second out₀ at (eventLines 0 (take i hs) ans rs) (eventLine i k (getD ans i 0) (getD rs i 0)) (omega (arith, part, p .room)) (p .stands)
 
   -- A turn.
-  pub one-printed : {out′ : List ℕ} {next′ k : ℕ} → k ≡ kindOf (getD hs i 0) → getD ans i 0 < 4294967296 → getD rs i 0 < 256
-      → Stands out next (eventLine i k (getD ans i 0) (getD rs i 0)) next′ out′ → Printed out₀ at hs ans rs out′ next′ (i + 1)
-  one-printed {out′} {next′} {k} e ha hr stands =
-      let ha′ : i < length ans = omega (arith, p .answers) in
-      let hr′ : i < length rs = omega (arith, p .refusals) in
+  pub one-printed : {out′ : List ℕ} {next′ : ℕ} → Stands out next (eventLine i k (getD ans i 0) (getD rs i 0)) next′ out′ → Printed out₀ at hs ans rs out′ next′ (i + 1)
+  one-printed {out′} {next′} stands =
       let line = eventLine i k (getD ans i 0) (getD rs i 0) in
-      let l : length line ≤ eventLineSize = short e ha hr in
-      let same′ : length out′ ≡ length out = rw (stands .1) (length-sets out next line) in
-      let before = eventLines 0 (take i hs) ans rs in
-      let line-of : ℕ → ℕ → List ℕ = λ j x. before ++ eventLine j x (getD ans i 0) (getD rs i 0) in
-      let same-line : line-of (0 + i) (kindOf (getD hs i 0)) ≡ line-of i k = ap (λ (j : ℕ). line-of j (kindOf (getD hs i 0))) (zero-add i) ∙ ap (λ (x : ℕ). line-of i x) (sym e) in
-      let more = two out₀ at (eventLines 0 (take i hs) ans rs) line (p .stands) stands in
       record {
-        few = p .few;
         answers = p .answers;
         refusals = p .refusals;
         room = p .room;
-        kinds = p .kinds;
-        same = same′ ∙ p .same;
+        same = rw (stands .1) (length-sets out next line) ∙ p .same;
         turn = omega arith;
-        most = omega (arith, p .most, l, stands .0);
-        stands = rw (add-one i) (stands-as out₀ at (sym (lines-more 0 i hs ans rs h ha′ hr′ ∙ same-line)) more);
+        stands = rw (add-one i) (stands-as out₀ at next-line (two out₀ at (eventLines 0 (take i hs) ans rs) line (p .stands) stands));
       }
 
 -- All of them.
 pub all-printed : {out₀ : List ℕ} {at : ℕ} {hs ans rs out : List ℕ} {next i : ℕ} → Printed out₀ at hs ans rs out next i → length hs ≤ i
-    → (next ≡ at + length (eventLines 0 hs ans rs)) × ((out ≡ sets out₀ at (eventLines 0 hs ans rs)) × (next ≤ at + eventLineSize * length hs))
+    → Stands out₀ at (eventLines 0 hs ans rs) next out
 all-printed {out₀} {at} {hs} {ans} {rs} {out} {next} {i} p h =
-    let stands = stands-as out₀ at (ap (λ (l : List ℕ). eventLines 0 l ans rs) (take-all i hs h)) (p .stands) in
-    let few : next ≤ at + eventLineSize * length hs = omega (arith, p .most, p .turn) in
-    (stands .0, (stands .1, few))
+    stands-as out₀ at (ap (λ (l : List ℕ). eventLines 0 l ans rs) (take-all i hs h)) (p .stands)
 
 -- Lines look at as many answers and refusals as there are heads.
 pub lines-first : (j : ℕ) (hs ans rs x y : List ℕ) → length ans ≡ length hs → length rs ≡ length hs

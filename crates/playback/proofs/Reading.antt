@@ -2,12 +2,12 @@
 use Prim.Native.Nat.{ℕ, _≤_, _<_}
 use native.Mathlib.Omega.{arith}
 use mathlib.Core.Bool.{Bool, true, false, cond}
-use mathlib.Core.Path.{_≡_, refl, sym, subst, ap, _∙_}
+use mathlib.Core.Path.{_≡_, refl, sym, ap, _∙_}
 use mathlib.Core.List.{List}
 use lib.ListN.{length, getD, take, drop, length-append}
 use lib.Seq.{length-take-le}
 use Rattle.buffers.specs.Filled.{filled, HasFirst}
-use borrow.Author.Tests.{eq-eqb, ne-eqb, eqb-true, lt-leb, le-leb}
+use borrow.Author.Tests.{eq-eqb, ne-eqb, eqb-true}
 use Rattle.event.specs.Event.{shapeOf}
 use Rattle.event.proofs.Laws.{kind-known}
 use Rattle.record.specs.declared.Limits.{Limits}
@@ -31,6 +31,7 @@ use Rattle.record.proofs.TooLong.{read-cut, long-refused}
 use Rattle.digits.specs.Ascii.{ascii}
 use Rattle.playback.specs.Print.{KnownKinds, printWithin, playedLines, refusedLine, roomFor, printedLength, printedInto}
 use Rattle.playback.specs.Size.{printRoom}
+use Rattle.playback.proofs.Room.{had-room}
 
 -- A record that was read, where the reader's verdict is that of arrays with a and b places.
 pub record WasRead (limits : Limits) (bytes : List ℕ) (a b : ℕ) (heads values : List ℕ) (n s : ℕ) : Type 0 where
@@ -105,17 +106,13 @@ module _ {limits : Limits} {bytes : List ℕ} where
     played-is = rw (f .has-heads, f .has-values, f .sources) (sym (print-done limits bytes (f .yes)))
 
     -- The room for the print of a record that is read, and of one that is refused.
-    pub room-done : roomFor limits bytes ≡ printRoom n
+    pub room-done : printRoom (length (take n heads)) ≡ roomFor limits bytes
     unfolding roomFor
-    room-done = rw (f .yes, f .count)
+    room-done = rw (f .has-heads, f .yes)
 
-  pub room-refused : {number place : ℕ} → WasRefused limits bytes (limits .events) (limits .events) number place → roomFor limits bytes ≡ printRoom 0
+  pub room-refused : {number place : ℕ} → WasRefused limits bytes (limits .events) (limits .events) number place → printRoom 0 ≡ roomFor limits bytes
   unfolding roomFor
   room-refused f = rw (f .no)
-
--- A text that was put at the start is the print, where it is equal to it.
-pub printed-as : (out s t d : List ℕ) (r : ℕ) → s ≡ t → (r ≡ length s) × (d ≡ filled s out) → (r ≡ length t) × (d ≡ filled t out)
-printed-as out s t d r e p = subst (λ (x : List ℕ). (r ≡ length x) × (d ≡ filled x out)) e p
 
 -- The room that a record may need at most.
 room-most : (limits : Limits) (bytes : List ℕ) → roomFor limits bytes ≤ printRoom (limits .events)
@@ -128,27 +125,18 @@ room-most limits bytes = go (allYes (verdictWithin limits bytes)) refl
         omega (arith, ok .short, heads-length bytes (countOf bytes) (ok .whole))
     go false e = omega arith
 
--- Into a buffer of any length.
-module _ (limits : Limits) (bytes out : List ℕ) where
-  pub no-room : {room : ℕ} → roomFor limits bytes ≡ room → length out < room → (0 ≡ printedLength limits bytes (length out)) × (out ≡ printedInto limits bytes out)
-  no-room e h = rw (e, lt-leb _ (length out) h) (refl, refl)
+module _ (limits : Limits) (bytes out : List ℕ) {d : List ℕ} {r : ℕ} where
+  -- Into a buffer with room for any record that the reader takes.
+  pub room-enough : length out ≡ printRoom (limits .events) → (r ≡ printedLength limits bytes (length out)) × (d ≡ printedInto limits bytes out)
+      → (r ≡ length (printWithin limits bytes)) × (d ≡ filled (printWithin limits bytes) out)
+  room-enough l = had-room (roomFor limits bytes) (printWithin limits bytes) out (omega (arith, l, room-most limits bytes))
 
-  module _ {d : List ℕ} {r : ℕ} where
-    pub with-room : {room : ℕ} → roomFor limits bytes ≡ room → room ≤ length out → (r ≡ length (printWithin limits bytes)) × (d ≡ filled (printWithin limits bytes) out)
-        → (r ≡ printedLength limits bytes (length out)) × (d ≡ printedInto limits bytes out)
-    with-room e h p = rw (e, le-leb _ (length out) h) p
-
-    -- Into a buffer with room for any record that the reader takes.
-    pub room-enough : length out ≡ printRoom (limits .events) → (r ≡ printedLength limits bytes (length out)) × (d ≡ printedInto limits bytes out)
-        → (r ≡ length (printWithin limits bytes)) × (d ≡ filled (printWithin limits bytes) out)
-    room-enough l p = let h : roomFor limits bytes ≤ length out = omega (arith, l, room-most limits bytes) in rw (le-leb (roomFor limits bytes) (length out) h) at p
-
-    -- The print stands at the start of the buffer that it fills.
-    pub print-first : r ≡ length (printWithin limits bytes) → d ≡ filled (printWithin limits bytes) out → HasFirst r d
-    print-first e f =
-        let rest : List ℕ = drop (length (printWithin limits bytes)) out in
-        let within : r ≤ length d = rw (f, length-append (printWithin limits bytes) rest) (omega (arith, e)) in
-        (within, sym (length-take-le r d within))
+  -- The print stands at the start of the buffer that it fills.
+  pub print-first : r ≡ length (printWithin limits bytes) → d ≡ filled (printWithin limits bytes) out → HasFirst r d
+  print-first e f =
+      let rest : List ℕ = drop (length (printWithin limits bytes)) out in
+      let within : r ≤ length d = rw (f, length-append (printWithin limits bytes) rest) (omega (arith, e)) in
+      (within, sym (length-take-le r d within))
 
 -- Of an input that is longer than any record that the reader takes, as much as is longer too prints the same: what a player reads is enough.
 pub print-cut : (limits : Limits) (bytes : List ℕ) (m : ℕ) → lengthOf (limits .events) < m → m ≤ length bytes → printWithin limits (take m bytes) ≡ printWithin limits bytes

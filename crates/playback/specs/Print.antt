@@ -2,7 +2,7 @@
 use Prim.Native.Nat.{ℕ, suc, _<_}
 use mathlib.Core.Bool.{Bool, cond}
 use mathlib.Core.List.{List, [], _∷_, _++_}
-use lib.ListN.{length, getD}
+use lib.ListN.{length, getD, take}
 use lib.Dec.{leb}
 use lib.IntN.{pos, natAbs}
 use lib.Signed.{ltZ}
@@ -18,10 +18,11 @@ use Rattle.pic.specs.Calls.{currentRank}
 use Rattle.handlers.specs.declared.Machine.{Machine}
 use Rattle.handlers.specs.Machines.{powerOnOf}
 use Rattle.handlers.specs.Calls.{marginAnswer}
+use Rattle.buffers.specs.Least.{least}
 use Rattle.claims.specs.Play.{endOf, answersOf, refusalsOf}
 use Rattle.digits.specs.Ascii.{ascii}
 use Rattle.playback.specs.Text.{signed}
-use Rattle.playback.specs.Size.{printRoom}
+use Rattle.playback.specs.Size.{firstLineSize, printRoom, linesRoom}
 
 -- The first line: `sources 4 events 10`.
 abbrev pub firstLine : ℕ → ℕ → List ℕ
@@ -54,12 +55,19 @@ endLine m =
 abbrev pub refusedLine : ℕ → ℕ → List ℕ
 refusedLine refusal place = ascii "refused " ++ decimal refusal ++ ascii " at " ++ decimal place ++ ascii "\n"
 
+-- The lines of a list that was played: heads, answers and refusals beside one another, and the machine at its end.
+abbrev pub linesOf : ℕ → List ℕ → List ℕ → List ℕ → Machine → List ℕ
+linesOf sources heads answers refusals m = firstLine sources (length heads) ++ eventLines 0 heads answers refusals ++ endLine m
+
 -- The events of a record, played from power-on.
 abbrev pub playedLines : ℕ → List ℕ → List ℕ → List ℕ
 playedLines sources heads values =
-    firstLine sources (length heads)
-    ++ eventLines 0 heads (answersOf (powerOnOf sources .machine) heads values) (refusalsOf (powerOnOf sources .machine) heads values)
-    ++ endLine (endOf (powerOnOf sources .machine) heads values)
+    linesOf
+    sources
+    heads
+    (answersOf (powerOnOf sources .machine) heads values)
+    (refusalsOf (powerOnOf sources .machine) heads values)
+    (endOf (powerOnOf sources .machine) heads values)
 
 -- The whole print, by the reader's verdict.
 abbrev pub printBy : Verdict → List ℕ → List ℕ
@@ -86,9 +94,39 @@ KnownKinds heads = (j : ℕ) → j < length heads → kindOf (getD heads j 0) < 
 unfoldable pub roomFor : Limits → List ℕ → ℕ
 roomFor limits bytes = printRoom (cond (allYes (verdictWithin limits bytes)) (length (headsOf bytes)) 0)
 
--- A buffer with less room stays as it was, and the answer is 0.
+-- A text for which a call asks so much room fills the first bytes of a buffer, and the answer is how many. A buffer with less room stays as it was, and the
+-- answer is 0.
+abbrev pub lengthPut : ℕ → List ℕ → ℕ → ℕ
+lengthPut room text space = cond (leb room space) (length text) 0
+
+abbrev pub putInto : ℕ → List ℕ → List ℕ → List ℕ
+putInto room text buffer = cond (leb room (length buffer)) (filled text buffer) buffer
+
+-- So it is with the print of a record,
 abbrev pub printedLength : Limits → List ℕ → ℕ → ℕ
-printedLength limits bytes space = cond (leb (roomFor limits bytes) space) (length (printWithin limits bytes)) 0
+printedLength limits bytes space = lengthPut (roomFor limits bytes) (printWithin limits bytes) space
 
 abbrev pub printedInto : Limits → List ℕ → List ℕ → List ℕ
-printedInto limits bytes buffer = cond (leb (roomFor limits bytes) (length buffer)) (filled (printWithin limits bytes) buffer) buffer
+printedInto limits bytes buffer = putInto (roomFor limits bytes) (printWithin limits bytes) buffer
+
+-- with the lines of a list, of as many events as heads, answers and refusals all have,
+abbrev pub eventsGiven : List ℕ → List ℕ → List ℕ → ℕ
+eventsGiven heads answers refusals = least (length heads) (least (length answers) (length refusals))
+
+abbrev pub givenLines : ℕ → List ℕ → List ℕ → List ℕ → Machine → List ℕ
+givenLines sources heads answers refusals m = linesOf sources (take (eventsGiven heads answers refusals) heads) answers refusals m
+
+abbrev pub linesLength : ℕ → List ℕ → List ℕ → List ℕ → Machine → ℕ → ℕ
+linesLength sources heads answers refusals m space =
+    lengthPut (linesRoom (eventsGiven heads answers refusals)) (givenLines sources heads answers refusals m) space
+
+abbrev pub linesInto : ℕ → List ℕ → List ℕ → List ℕ → Machine → List ℕ → List ℕ
+linesInto sources heads answers refusals m buffer =
+    putInto (linesRoom (eventsGiven heads answers refusals)) (givenLines sources heads answers refusals m) buffer
+
+-- and with the line of a record that is refused, which is no longer than a first line.
+abbrev pub refusedLength : ℕ → ℕ → ℕ → ℕ
+refusedLength refusal place space = lengthPut firstLineSize (refusedLine refusal place) space
+
+abbrev pub refusedInto : ℕ → ℕ → List ℕ → List ℕ
+refusedInto refusal place buffer = putInto firstLineSize (refusedLine refusal place) buffer

@@ -1,19 +1,16 @@
 // The whole print of a record.
 
 ghost use mathlib.Core.Path.{_≡_};
-ghost use Prim.Native.Nat.{_+_, _*_, _≤_};
+ghost use Prim.Native.Nat.{_≤_};
 ghost use lib.ListN.{length};
-ghost use lib.Seq.{sets};
 ghost use Rattle.buffers.specs.Filled.{filled, HasFirst};
-ghost use Rattle.playback.specs.Print.{KnownKinds, eventLines, endLine, playedLines, printOf, compactPrintOf, printedLength, printedInto};
-ghost use Rattle.playback.specs.Size.{eventLineSize, lastLineSize, printRoom};
+ghost use Rattle.playback.specs.Print.{refusedLine, playedLines, KnownKinds, lengthPut, putInto, printOf, compactPrintOf, printedLength, printedInto};
+ghost use Rattle.playback.specs.Size.{printRoom};
 ghost use Rattle.record.specs.Record.{board, mostEvents};
-use crate::lines::is_below;
-use crate::lines::put_event;
-use crate::lines::put_last;
-use crate::lines::put_line;
-use crate::lines::size;
-use handlers::Machine;
+use crate::list::FIRST_LINE_SIZE;
+use crate::list::LAST_LINE_SIZE;
+use crate::list::print_refused;
+use crate::list::put_lines;
 use record::BOARD;
 use record::COMPACT;
 use record::COMPACT_EVENTS;
@@ -21,13 +18,8 @@ use record::Limits;
 use record::MOST_EVENTS;
 use record::ReadAnswer;
 
-// The most bytes that the first line, the line of an event and the last line have. No number has more than 20 digits; in the line of an event the index has at
-// most 4, the kind 2, the answer 10 and the refusal 3.
-const FIRST_LINE_SIZE: usize = 57;
-
+// The most bytes that the line of an event of a record has: the index has at most 4 digits, the kind 2, the answer 10 and the refusal 3.
 const EVENT_LINE_SIZE: usize = 23;
-
-const LAST_LINE_SIZE: usize = 86;
 
 // Enough for the print of any record.
 pub const PRINT_SIZE: usize = FIRST_LINE_SIZE + MOST_EVENTS * EVENT_LINE_SIZE + LAST_LINE_SIZE;
@@ -37,45 +29,15 @@ pub const COMPACT_PRINT_SIZE: usize = FIRST_LINE_SIZE
     + COMPACT_EVENTS * EVENT_LINE_SIZE
     + LAST_LINE_SIZE;
 
-// Puts the lines of the events from a place on, and answers the place after them.
-fn put_events(out: &mut [u8], at: usize, heads: &[u32], answers: &[u32], refusals: &[u8]) -> usize
-    requires { ⌜ (length (now heads) ≤ mostEvents) × (length (now heads) ≤ length (now answers)) × (length (now heads) ≤ length (now refusals))
-        × (at + eventLineSize * length (now heads) ≤ length (now out)) × KnownKinds (now heads) ⌝ }
-    ensures { λ r. ⌜ r ≡ at + length (eventLines 0 (now (heads .entry)) (now (answers .entry)) (now (refusals .entry))) ⌝ }
-    ensures { λ _. ⌜ now (out .exit) ≡ sets (now (out .entry)) at (eventLines 0 (now (heads .entry)) (now (answers .entry)) (now (refusals .entry))) ⌝ }
-    ensures { λ r. ⌜ r ≤ at + eventLineSize * length (now (heads .entry)) ⌝ }
+// The bytes that the print of a record with so many events may need.
+fn print_room(events: usize) -> usize
+    requires { ⌜ events ≤ mostEvents ⌝ }
+    ensures { λ r. ⌜ r ≡ printRoom events ⌝ }
 {
-    let mut next = at;
-    let mut i: usize = 0;
-    while i < heads.len() {
-        next = put_event(
-            out,
-            next,
-            i as u64,
-            event::kind(heads[i]) as u64,
-            answers[i] as u64,
-            refusals[i] as u64,
-        );
-        i += 1;
-    }
-    next
+    FIRST_LINE_SIZE + events * EVENT_LINE_SIZE + LAST_LINE_SIZE
 }
 
-// Puts the last line of a machine.
-fn put_end(out: &mut [u8], at: usize, m: Machine) -> usize
-    requires { ⌜ at + lastLineSize ≤ length (now out) ⌝ }
-    ensures { λ r. ⌜ r ≡ at + length (endLine m) ⌝ }
-    ensures { λ _. ⌜ now (out .exit) ≡ sets (now (out .entry)) at (endLine m) ⌝ }
-{
-    let q = m.margin();
-    let c = m.controller;
-    let level = c.current_rank();
-    let below = is_below(q.margin);
-    let far = size(q.margin);
-    put_last(out, at, m.service.depth as u64, level.0 as u64, below, far)
-}
-
-// Plays the events from power-on, with places for what they answer and are refused with, and puts their print at the start.
+// Plays the events of an accepted record from power-on, with places for what they answer and are refused with, and prints them, as print_into does.
 fn print_played(
     out: &mut [u8],
     sources: u32,
@@ -85,30 +47,27 @@ fn print_played(
     refusals: &mut [u8],
 ) -> usize
     requires { ⌜ (length (now heads) ≤ mostEvents) × (length (now values) ≡ length (now heads)) × KnownKinds (now heads)
-        × (printRoom (length (now heads)) ≤ length (now out)) × (length (now heads) ≤ length (now answers)) × (length (now heads) ≤ length (now refusals)) ⌝ }
-    ensures { λ r. ⌜ r ≡ length (playedLines sources (now (heads .entry)) (now (values .entry))) ⌝ }
-    ensures { λ _. ⌜ now (out .exit) ≡ filled (playedLines sources (now (heads .entry)) (now (values .entry))) (now (out .entry)) ⌝ }
+        × (length (now heads) ≤ length (now answers)) × (length (now heads) ≤ length (now refusals)) ⌝ }
+    ensures { λ r. ⌜ r ≡ lengthPut (printRoom (length (now (heads .entry)))) (playedLines sources (now (heads .entry)) (now (values .entry))) (length (now (out .entry))) ⌝ }
+    ensures { λ _. ⌜ now (out .exit) ≡ putInto (printRoom (length (now (heads .entry)))) (playedLines sources (now (heads .entry)) (now (values .entry))) (now (out .entry)) ⌝ }
 {
+    if out.len() < print_room(heads.len()) {
+        return 0;
+    }
     let played = claims::play(sources, heads, values, answers, refusals);
-    let a = put_line(
-        out,
-        0,
-        b"sources ",
-        sources as u64,
-        b" events ",
-        heads.len() as u64,
-    );
-    let b = put_events(out, a, heads, answers, refusals);
     let m = played.machine;
-    put_end(out, b, m)
+    put_lines(out, sources, heads, answers, refusals, m)
 }
 
-// The bytes that the print of a record with so many events may need.
-fn print_room(events: usize) -> usize
-    requires { ⌜ events ≤ mostEvents ⌝ }
-    ensures { λ r. ⌜ r ≡ printRoom events ⌝ }
+// Prints the line of a bad record, as print_into does: it asks for the room of a print with no events.
+fn print_bad(refusal: u8, place: usize, out: &mut [u8]) -> usize
+    ensures { λ r. ⌜ r ≡ lengthPut (printRoom 0) (refusedLine refusal place) (length (now (out .entry))) ⌝ }
+    ensures { λ _. ⌜ now (out .exit) ≡ putInto (printRoom 0) (refusedLine refusal place) (now (out .entry)) ⌝ }
 {
-    FIRST_LINE_SIZE + events * EVENT_LINE_SIZE + LAST_LINE_SIZE
+    if out.len() < print_room(0) {
+        return 0;
+    }
+    print_refused(refusal, place, out)
 }
 
 // Prints a record by a reader with these limits, whose arrays have a place for each event that it takes, into a buffer of any length, as print_into does.
@@ -128,25 +87,15 @@ fn print_within(
 {
     let got = record::read_within(limits, record, heads, values);
     match got {
-        ReadAnswer::Done { events, sources } => {
-            if out.len() < print_room(events) {
-                return 0;
-            }
-            print_played(
-                out,
-                sources,
-                &heads[..events],
-                &values[..events],
-                answers,
-                refusals,
-            )
-        }
-        ReadAnswer::Refused { refusal, place } => {
-            if out.len() < print_room(0) {
-                return 0;
-            }
-            put_line(out, 0, b"refused ", refusal as u64, b" at ", place as u64)
-        }
+        ReadAnswer::Done { events, sources } => print_played(
+            out,
+            sources,
+            &heads[..events],
+            &values[..events],
+            answers,
+            refusals,
+        ),
+        ReadAnswer::Refused { refusal, place } => print_bad(refusal, place, out),
     }
 }
 

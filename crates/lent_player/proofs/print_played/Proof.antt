@@ -1,5 +1,12 @@
+use Prim.Native.Nat.{ℕ, _≤_}
 use native.Mathlib.Omega.{arith}
-use Rattle.lent_player.proofs.Places.{answered}
+use mathlib.Core.Path.{_≡_}
+use mathlib.Core.List.{List}
+use lib.ListN.{length, replicate, length-replicate}
+use Rattle.record.specs.Record.{mostEvents}
+use Rattle.claims.proofs.Playing.{played-all}
+use Rattle.playback.specs.Size.{linesRoom}
+use Rattle.playback.proofs.Whole.{played-given}
 use borrow.Author.Needs.{needs}
 use Rattle.lent_player.proofs.print_played.Statement.{statement}
 use Rattle.lent_player.proofs.print_played.Tie as tie
@@ -13,35 +20,24 @@ slice-aggregate-play-lent-2 c = search needs
 play-lent-requires : tie.Need-play-lent-requires
 play-lent-requires c κs = search needs
 
-slice-aggregate-put-line : tie.Need-slice-aggregate-put-line
-slice-aggregate-put-line c = search needs
+slice-aggregate-print-lines : tie.Need-slice-aggregate-print-lines
+slice-aggregate-print-lines c = search needs
 
-slice-aggregate-put-line-2 : tie.Need-slice-aggregate-put-line-2
-slice-aggregate-put-line-2 c = search needs
+slice-aggregate-print-lines-2 : tie.Need-slice-aggregate-print-lines-2
+slice-aggregate-print-lines-2 c = search needs
 
-put-line-requires : tie.Need-put-line-requires
-put-line-requires c κs = search needs
-
-slice-aggregate-put-events : tie.Need-slice-aggregate-put-events
-slice-aggregate-put-events c = search needs
-
-slice-aggregate-put-events-2 : tie.Need-slice-aggregate-put-events-2
-slice-aggregate-put-events-2 c = search needs
-
-put-events-requires : tie.Need-put-events-requires
-put-events-requires c κs =
-    let p = c .before .before .before .before .before .before .before .before .before .before .before .play-lent in
-    let f = answered _ _ _ _ _ _ _ (p .ensures .0) in
-    (omega (arith, c .before .before .before .before .before .put-line .ensures, c .before .before .before .before .before .put-line .kept .0), f .heads, omega (arith, f .answers, p .kept .1 .1 .1 .0), omega (arith, f .refusals, p .kept .1 .1 .1 .1 .0))
-
-put-end-requires : tie.Need-put-end-requires
-put-end-requires c κs = search needs
-
-same-length : tie.Need-same-length
-same-length c = search needs
+print-lines-requires : tie.Need-print-lines-requires
+print-lines-requires c κs = search needs
 
 returns : tie.Need-returns
-returns c = search needs
+returns c =
+    let s = c .before .before .before .before .before .before .before .before .before .before .before in
+    let play = c .before .before .before .before .before .before .play-lent in
+    let places : List ℕ = replicate mostEvents 0 in
+    let count : length places ≡ mostEvents = length-replicate {A = ℕ} mostEvents 0 in
+    let all = played-all (s .args .sources) (s .args .heads .now) (s .args .values .now) places places (s .pre .1) (omega (arith, s .pre .0, count)) (omega (arith, s .pre .0, count)) (play .ensures .0) (play .ensures .1 .0) (play .ensures .1 .1 .0) in
+    let size : length (s .args .out .now) ≡ linesRoom mostEvents = search needs in
+    played-given (s .args .sources) (s .args .heads .now) (s .args .values .now) places places (s .args .out .now) all (omega (arith, s .pre .0, count, play .kept .1 .1 .1 .0)) (omega (arith, s .pre .0, count, play .kept .1 .1 .1 .1 .0)) (omega (arith, s .pre .0, size)) (c .print-lines .ensures)
 
 pub print-played-spec : {M : Type 1} → statement M
 print-played-spec =
@@ -50,12 +46,7 @@ print-played-spec =
     slice-aggregate-play-lent
     slice-aggregate-play-lent-2
     play-lent-requires
-    slice-aggregate-put-line
-    slice-aggregate-put-line-2
-    put-line-requires
-    slice-aggregate-put-events
-    slice-aggregate-put-events-2
-    put-events-requires
-    put-end-requires
-    same-length
+    slice-aggregate-print-lines
+    slice-aggregate-print-lines-2
+    print-lines-requires
     returns)

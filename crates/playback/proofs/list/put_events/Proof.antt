@@ -3,8 +3,8 @@ use Prim.Native.Nat.{ℕ, _-_, _^_, _<_}
 use native.Mathlib.Omega.{arith}
 use lib.ListN.{length}
 use Rattle.playback.proofs.Printing.{Printed, none-printed, line-room, one-printed, all-printed}
-use Rattle.playback.proofs.bytes.put_events.Statement.{statement}
-use Rattle.playback.proofs.bytes.put_events.Tie as tie
+use Rattle.playback.proofs.list.put_events.Statement.{statement}
+use Rattle.playback.proofs.list.put_events.Tie as tie
 
 wider : (x : ℕ) → x < 2 ^ 32 → x < 2 ^ 64
 wider x h = omega (arith, h)
@@ -49,7 +49,7 @@ cast-put-event-3 : tie.Need-cast-put-event-3 Inv-loop μ-loop
 cast-put-event-3 c = record { fits = small _ (c .shared-slice-known6 .given (c .before .before .before .before .before .before .loop .i) .fits) }
 
 put-event-requires : tie.Need-put-event-requires Inv-loop μ-loop
-put-event-requires c κs = line-room (c .before .before .before .before .before .before .loop .inv) (c .before .before .before .before .before .loop-test .taken) (c .before .before .kind .ensures) ((c .before .shared-slice-known5 .given) (c .before .before .before .before .before .before .loop .i) .fits) ((c .shared-slice-known6 .given) (c .before .before .before .before .before .before .loop .i) .fits)
+put-event-requires c κs = line-room (c .before .before .before .before .before .before .loop .inv) (c .before .before .before .before .before .loop-test .taken) (c .before .before .kind .ensures)
 
 add-i : tie.Need-add-i Inv-loop μ-loop
 add-i c = search needs
@@ -58,7 +58,7 @@ loop-less : tie.Need-loop-less Inv-loop μ-loop
 loop-less c = search needs
 
 loop-again : tie.Need-loop-again Inv-loop μ-loop
-loop-again c = one-printed (c .before .before .before .before .before .before .before .before .before .loop .inv) (c .before .before .before .before .before .before .before .before .loop-test .taken) (c .before .before .before .before .before .kind .ensures) ((c .before .before .before .before .shared-slice-known5 .given) (c .before .before .before .before .before .before .before .before .before .loop .i) .fits) ((c .before .before .before .shared-slice-known6 .given) (c .before .before .before .before .before .before .before .before .before .loop .i) .fits) (c .before .before .put-event .ensures)
+loop-again c = one-printed (c .before .before .before .before .before .before .before .before .before .loop .inv) (c .before .before .before .before .before .before .before .before .loop-test .taken) (c .before .before .before .before .before .kind .ensures) (c .before .before .put-event .ensures)
 
 same-length : tie.Need-same-length Inv-loop μ-loop
 same-length c = search needs
