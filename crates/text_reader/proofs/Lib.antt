@@ -1,7 +1,4 @@
--- Laws of texts: marks and lines, numbers, rows, the rules in plain sentences, the loops over the lines, the record made, a text that is too long; the listing as a point.
-pub mod Marks
-pub mod Digits
-pub mod Rows
+-- Laws of the text of a record: the rules in plain sentences, the loops over the lines, the record made, a text that is too long; the listing as a point.
 pub mod Sentences
 pub mod Turns
 pub mod Made

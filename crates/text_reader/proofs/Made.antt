@@ -16,13 +16,13 @@ use Rattle.record.specs.Answers.{Answer, doneWith, refusedAt, writeNumbers, wri
 use Rattle.record.proofs.Answers.{write-done, write-not}
 use Rattle.record.proofs.Questions.{writable, write-place}
 use Rattle.text_reader.specs.declared.Fault.{Fault}
-use Rattle.text_reader.specs.declared.Number.{Number}
-use Rattle.text_reader.specs.Lines.{linesIn}
-use Rattle.text_reader.specs.Numbers.{numberIn}
-use Rattle.text_reader.specs.Rows.{trimmed, Row, rowsOf}
+use Rattle.text_lines.specs.declared.Number.{Number}
+use Rattle.text_lines.specs.Lines.{linesIn}
+use Rattle.text_lines.specs.Numbers.{numberIn}
+use Rattle.text_lines.specs.Rows.{trimmed, Row, rowsOf}
 use Rattle.text_reader.specs.Reading.{fault, notSources, tooLong, textSize, eventsFault, rowsFault, textFault, sourcesOfText, headsOfText, valuesOfText, numbersOf}
 use Rattle.text_reader.specs.Answers.{faulty, written, rowOfPlace, lineOf, toRecordAnswer, toRecordBytes}
-use Rattle.text_reader.proofs.Digits.{found-ok, found-value}
+use Rattle.text_lines.proofs.Digits.{found-ok, found-value}
 
 one-add : (n : ℕ) → 1 + n ≡ suc n
 one-add n = omega arith

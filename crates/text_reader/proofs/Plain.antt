@@ -11,9 +11,9 @@ use lib.Seq.{take-length}
 use Rattle.digits.proofs.Meaning.{digit-of-glyph}
 use Rattle.digits.proofs.Signs.{Signs, none, more}
 use Rattle.record.specs.Record.{mostEvents}
-use Rattle.text_reader.specs.Lines.{before, linesIn}
-use Rattle.text_reader.specs.Rows.{carriageReturn, lastOf, withoutReturn, commentSign, saidIn, isBlank, withoutLead, keptOf, trimmed, saysAny, Row, rowsFrom, rowsOf}
-use Rattle.text_reader.specs.Numbers.{allDigits}
+use Rattle.text_lines.specs.Lines.{before, linesIn}
+use Rattle.text_lines.specs.Rows.{carriageReturn, lastOf, withoutReturn, commentSign, saidIn, isBlank, withoutLead, keptOf, trimmed, saysAny, Row, rowsFrom, rowsOf}
+use Rattle.text_lines.specs.Numbers.{allDigits}
 use Rattle.text_reader.specs.Reading.{isSources, isEvent, noFault, eventsFault, textSize, textFault}
 use Rattle.text_reader.proofs.Sentences.{Free, empty, other}
 use Rattle.text_reader.proofs.Made.{by-rows}

@@ -9,9 +9,9 @@ use Rattle.record.specs.Questions.{writeShapeOf, walkFrom, writeVerdict}
 use Rattle.record.specs.Answers.{doneWith, refusedAt}
 use Rattle.digits.specs.Ascii.{ascii}
 use Rattle.digits.specs.Digits.{digitOf, numberAfter}
-use Rattle.text_reader.specs.Lines.{before, after, linesIn}
-use Rattle.text_reader.specs.Rows.{withoutReturn, saidIn, withoutLead, keptOf, trimmed, saysAny, rowsFrom}
-use Rattle.text_reader.specs.Numbers.{allDigits}
+use Rattle.text_lines.specs.Lines.{before, after, linesIn}
+use Rattle.text_lines.specs.Rows.{withoutReturn, saidIn, withoutLead, keptOf, trimmed, saysAny, rowsFrom}
+use Rattle.text_lines.specs.Numbers.{allDigits}
 use Rattle.text_reader.specs.Reading.{notSources, notEvent, eventsFault, textFault, sourcesOfText, headsOfText, valuesOfText}
 use Rattle.text_reader.specs.Answers.{LinesAnswer, faulty, written, toRecordAnswer}
 

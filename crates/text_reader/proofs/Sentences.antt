@@ -11,8 +11,8 @@ use lib.Dec.{eqb, leb}
 use lib.ListN.{length, getD, drop, length-append}
 use Rattle.record.specs.Record.{mostEvents}
 use Rattle.text_reader.specs.declared.Fault.{Fault}
-use Rattle.text_reader.specs.Lines.{lineFeed, before, after, onto, linesIn}
-use Rattle.text_reader.specs.Rows.{saidIn, isBlank, withoutLead, keptOf, saysAny, Row, rowsFrom}
+use Rattle.text_lines.specs.Lines.{lineFeed, before, after, onto, linesIn}
+use Rattle.text_lines.specs.Rows.{saidIn, isBlank, withoutLead, keptOf, saysAny, Row, rowsFrom}
 use Rattle.text_reader.specs.Reading.{isEvent, notEvent, tooMany, eventsFault}
 
 -- No byte of the list is the mark.

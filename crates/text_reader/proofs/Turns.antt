@@ -12,13 +12,13 @@ use lib.Seq.{take-suc-set, take-take, drop-drop, length-take-le}
 use Rattle.record.specs.Record.{mostEvents}
 use Rattle.text_reader.specs.declared.Event.{Event}
 use Rattle.text_reader.specs.declared.Fault.{Fault}
-use Rattle.text_reader.specs.declared.Number.{Number}
-use Rattle.text_reader.specs.Lines.{lineFeed, before, after, linesIn}
-use Rattle.text_reader.specs.Rows.{saidIn, withoutLead, trimmed, saysAny, Row, rowsFrom}
-use Rattle.text_reader.specs.Numbers.{numberIn}
+use Rattle.text_lines.specs.declared.Number.{Number}
+use Rattle.text_lines.specs.Lines.{lineFeed, before, after, linesIn}
+use Rattle.text_lines.specs.Rows.{saidIn, withoutLead, trimmed, saysAny, Row, rowsFrom}
+use Rattle.text_lines.specs.Numbers.{numberIn}
 use Rattle.text_reader.specs.Reading.{headPart, valuePart, isEvent, headIn, valueIn, eventIn, noFault, notEvent, tooMany, eventsFault}
-use Rattle.text_reader.proofs.Marks.{up-to, from-past, rest-of, lines-first}
-use Rattle.text_reader.proofs.Digits.{and-true, found-ok, found-value}
+use Rattle.text_lines.proofs.Marks.{up-to, from-past, rest-of, lines-first}
+use Rattle.text_lines.proofs.Digits.{and-true, found-ok, found-value}
 
 -- The parts of a row: what is read of them is the event of the row.
 pub event-there : (said : List ℕ) {at next : ℕ} {h v : Number} → at ≡ length (before 58 said) → next ≡ min (at + 1) (length said)

@@ -8,7 +8,7 @@ use Rattle.record.specs.Answers.{Answer, doneWith, refusedAt, writeAnswer, writ
 use Rattle.text_reader.specs.declared.RecordAnswer.{RecordAnswer}
 use Rattle.text_reader.specs.declared.RecordAnswer.the-variants as toRecord
 use Rattle.text_reader.specs.declared.Fault.{Fault}
-use Rattle.text_reader.specs.Rows.{rowsOf}
+use Rattle.text_lines.specs.Rows.{rowsOf}
 use Rattle.text_reader.specs.Reading.{fault, textFault, sourcesOfText, headsOfText, valuesOfText, numbersOf}
 
 -- A fault of the text is answered with its line. Where there is none, the record's own questions are asked, and the writer answers;

@@ -5,9 +5,9 @@ use mathlib.Core.List.{List, [], _∷_, map}
 use lib.ListN.{length, getD, drop}
 use lib.Dec.{leb}
 use Rattle.record.specs.Record.{mostEvents}
-use Rattle.text_reader.specs.Lines.{colon, before, after, linesIn}
-use Rattle.text_reader.specs.Rows.{trimmed, Row, rowsOf}
-use Rattle.text_reader.specs.Numbers.{isNumber, numberIn}
+use Rattle.text_lines.specs.Lines.{colon, before, after, linesIn}
+use Rattle.text_lines.specs.Rows.{trimmed, Row, rowsOf}
+use Rattle.text_lines.specs.Numbers.{isNumber, numberIn}
 use Rattle.digits.specs.Digits.{numberOf}
 use Rattle.text_reader.specs.declared.Event.{Event}
 use Rattle.text_reader.specs.declared.Fault.{Fault}

@@ -7,15 +7,18 @@ ghost use Prim.Native.Nat.{_+_, _-_, _≤_, _<_, min};
 ghost use lib.ListN.{length, getD, take, drop};
 ghost use lib.Dec.{ltb};
 ghost use Rattle.record.specs.Record.{mostEvents, recordSize};
-ghost use Rattle.digits.specs.Digits.{digitOf};
-ghost use Rattle.text_reader.specs.Lines.{lineFeed, before, after, linesIn};
-ghost use Rattle.text_reader.specs.Rows.{withoutReturn, saidIn, isBlank, withoutLead, keptOf, trimmed, saysAny, rowsFrom, rowsOf};
-ghost use Rattle.text_reader.specs.Numbers.{numberIn};
+ghost use Rattle.text_lines.specs.Lines.{lineFeed, before, after, linesIn};
+ghost use Rattle.text_lines.specs.Rows.{saidIn, saysAny, rowsFrom, rowsOf};
 ghost use Rattle.text_reader.specs.Reading.{headIn, valueIn, eventIn, fault, textSize, eventsFault, textFault, sourcesOfText, headsOfText, valuesOfText, numbersOf};
 ghost use Rattle.text_reader.specs.Answers.{recordNumbers, toRecordAnswer, toRecordBytes, recordLength};
 use record::MOST_EVENTS;
 use record::RECORD_SIZE;
 use record::WriteAnswer;
+use text_lines::decimal_in;
+use text_lines::find;
+use text_lines::hexadecimal_in;
+use text_lines::said_in;
+use text_lines::says_any;
 
 // The most bytes of a text.
 pub const TEXT_SIZE: usize = 1048576;
@@ -50,12 +53,6 @@ pub enum RecordAnswer {
 struct Fault {
     why: u8,
     line: usize,
-}
-
-// A number in a text; value 0 where there is none.
-struct Number {
-    ok: bool,
-    value: u32,
 }
 
 // The event of a row; ok where the row is good.
@@ -95,64 +92,6 @@ struct Listing {
     events: usize,
 }
 
-// The digit that a byte stands for, 16 where it stands for none.
-fn digit(byte: u8) -> u32
-    ensures { λ r. ⌜ r ≡ digitOf byte ⌝ }
-{
-    if (b'0' <= byte) & (byte <= b'9') {
-        return (byte as u32) - 48;
-    }
-    if (b'a' <= byte) & (byte <= b'f') {
-        return (byte as u32) - 87;
-    }
-    if (b'A' <= byte) & (byte <= b'F') {
-        return (byte as u32) - 55;
-    }
-    16
-}
-
-// The number that the text is, in a base, in at most so many digits.
-fn number_in(text: &[u8], base: u32, most: usize) -> Number
-    requires { ⌜ (base ≤ 16) × (most ≤ 8) ⌝ }
-    ensures { λ r. ⌜ r ≡ numberIn base most (now (text .entry)) ⌝ }
-{
-    if !((1 <= text.len()) & (text.len() <= most)) {
-        return Number {
-            ok: false,
-            value: 0,
-        };
-    }
-    let mut value: u32 = 0;
-    let mut i: usize = 0;
-    while i < text.len() {
-        let d = digit(text[i]);
-        if base <= d {
-            return Number {
-                ok: false,
-                value: 0,
-            };
-        }
-        value = value * base + d;
-        i += 1;
-    }
-    Number { ok: true, value }
-}
-
-// The index of the first such mark, or the length.
-fn find(text: &[u8], mark: u8) -> usize
-    ensures { λ r. ⌜ r ≡ length (before mark (now (text .entry))) ⌝ }
-    ensures { λ r. ⌜ r ≤ length (now (text .entry)) ⌝ }
-{
-    let mut i: usize = 0;
-    while i < text.len() {
-        if text[i] == mark {
-            return i;
-        }
-        i += 1;
-    }
-    i
-}
-
 // The place after a mark at this place, of which there is none at the length.
 fn past(at: usize, length: usize) -> usize
     requires { ⌜ at ≤ length ⌝ }
@@ -161,98 +100,19 @@ fn past(at: usize, length: usize) -> usize
     if at < length { at + 1 } else { at }
 }
 
-// Whether a byte is a blank or a tab.
-fn is_blank(byte: u8) -> bool
-    ensures { λ r. ⌜ r ≡ isBlank byte ⌝ }
-{
-    (byte == b' ') | (byte == b'\t')
-}
-
-// How many blanks stand at the start.
-fn lead(text: &[u8]) -> usize
-    ensures { λ r. ⌜ drop r (now (text .entry)) ≡ withoutLead (now (text .entry)) ⌝ }
-    ensures { λ r. ⌜ r ≤ length (now (text .entry)) ⌝ }
-{
-    let mut i: usize = 0;
-    while i < text.len() {
-        if !is_blank(text[i]) {
-            return i;
-        }
-        i += 1;
-    }
-    i
-}
-
-// How many bytes are left without the blanks at the end.
-fn kept(text: &[u8]) -> usize
-    ensures { λ r. ⌜ r ≡ keptOf (now (text .entry)) (length (now (text .entry))) ⌝ }
-    ensures { λ r. ⌜ r ≤ length (now (text .entry)) ⌝ }
-{
-    let mut n = text.len();
-    while 0 < n {
-        if !is_blank(text[n - 1]) {
-            return n;
-        }
-        n -= 1;
-    }
-    n
-}
-
-// The number that a part of a line is, without the blanks around it.
-fn word_in(part: &[u8], base: u32, most: usize) -> Number
-    requires { ⌜ (base ≤ 16) × (most ≤ 8) ⌝ }
-    ensures { λ r. ⌜ r ≡ numberIn base most (trimmed (now (part .entry))) ⌝ }
-{
-    let from = lead(part);
-    let rest = &part[from..];
-    let to = kept(rest);
-    number_in(&rest[..to], base, most)
-}
-
 // The event that a row is.
 fn event_in(said: &[u8]) -> Event
     ensures { λ r. ⌜ r ≡ eventIn (now (said .entry)) ⌝ }
 {
     let at = find(said, b':');
-    let head = word_in(&said[..at], 16, 8);
+    let head = hexadecimal_in(&said[..at]);
     let next = past(at, said.len());
-    let value = word_in(&said[next..], 16, 8);
+    let value = hexadecimal_in(&said[next..]);
     Event {
         ok: head.ok & value.ok,
         head: head.value,
         value: value.value,
     }
-}
-
-// The length of a line without a carriage return at its end.
-fn unreturned(line: &[u8]) -> usize
-    ensures { λ r. ⌜ take r (now (line .entry)) ≡ withoutReturn (now (line .entry)) ⌝ }
-    ensures { λ r. ⌜ r ≤ length (now (line .entry)) ⌝ }
-{
-    let n = line.len();
-    if n == 0 {
-        return 0;
-    }
-    if line[n - 1] == b'\r' {
-        return n - 1;
-    }
-    n
-}
-
-// The length of what a line says.
-fn said_in(line: &[u8]) -> usize
-    ensures { λ r. ⌜ take r (now (line .entry)) ≡ saidIn (now (line .entry)) ⌝ }
-    ensures { λ r. ⌜ r ≤ length (now (line .entry)) ⌝ }
-{
-    let end = unreturned(line);
-    find(&line[..end], b'#')
-}
-
-// Whether what a line says is not all blank.
-fn says_any(said: &[u8]) -> bool
-    ensures { λ r. ⌜ r ≡ ltb 0 (length (withoutLead (now (said .entry)))) ⌝ }
-{
-    lead(said) < said.len()
 }
 
 // The line that begins at a place of the text.
@@ -394,7 +254,7 @@ fn read_text(text: &[u8], heads: &mut [u32], values: &mut [u32], numbers: &mut [
     }
     let from = row.from;
     let to = row.to;
-    let first = word_in(&text[from..to], 10, 3);
+    let first = decimal_in(&text[from..to]);
     if !first.ok {
         return faulty(NOT_SOURCES, number);
     }

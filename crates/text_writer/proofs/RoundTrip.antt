@@ -24,13 +24,13 @@ use Rattle.record.proofs.Questions.{Readable, readable}
 use Rattle.record_round_trip.specs.RoundTrip.{WritesBack}
 use Rattle.record_round_trip.proofs.RoundTrip.{heads-count, writes-back}
 use Rattle.record.proofs.Parts.{heads-below, values-below}
-use Rattle.text_reader.specs.Lines.{lineFeed, colon, linesIn}
-use Rattle.text_reader.specs.Numbers.{isNumber}
-use Rattle.text_reader.specs.Rows.{trimmed, Row, rowsFrom, rowsOf}
+use Rattle.text_lines.specs.Lines.{lineFeed, colon, linesIn}
+use Rattle.text_lines.specs.Numbers.{isNumber}
+use Rattle.text_lines.specs.Rows.{trimmed, Row, rowsFrom, rowsOf}
 use Rattle.text_reader.specs.Reading.{headPart, valuePart, isEvent, headIn, valueIn, noFault, eventsFault, textSize, textFault, sourcesOfText, headsOfText, valuesOfText, numbersOf}
 use Rattle.text_reader.specs.Answers.{written, lineOf, writerAnswer, toRecordAnswer, toRecordBytes}
 use Rattle.text_reader.proofs.Sentences.{Free, empty, other, free-append, before-free, after-free}
-use Rattle.text_reader.proofs.Marks.{lines-first}
+use Rattle.text_lines.proofs.Marks.{lines-first}
 use Rattle.text_reader.proofs.Plain.{signs-digits, Solid, Plain, trimmed-solid, row-plain, no-more-rows, event-past, no-more-events, text-well}
 use Rattle.text_writer.specs.Writing.{ended, sourcesText, eventText, eventsText, listingOf, textOf}
 use Rattle.text_writer.specs.RoundTrip.{ComesBack}

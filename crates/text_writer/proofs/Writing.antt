@@ -24,7 +24,7 @@ use Rattle.record.specs.Answers.{doneWith, refusedAt, readNumbers, readAnswer}
 use Rattle.record.proofs.Questions.{own-arrays}
 use Rattle.record.proofs.Answers.{read-not}
 use Rattle.record.proofs.Parts.{Parts}
-use Rattle.text_reader.specs.Lines.{lineFeed, colon}
+use Rattle.text_lines.specs.Lines.{lineFeed, colon}
 use Rattle.text_writer.specs.Writing.{ended, sourcesText, eventText, eventsText, listingOf, textOf}
 use Rattle.text_writer.specs.Answers.{toTextAnswer, toTextBytes}
 

@@ -3,7 +3,7 @@ use Prim.Native.Nat.{ℕ}
 use mathlib.Core.List.{List, [], _∷_, _++_}
 use Rattle.digits.specs.Digits.{decimal, hexadecimal}
 use Rattle.record.specs.Record.{sourcesOf, headsOf, valuesOf}
-use Rattle.text_reader.specs.Lines.{lineFeed, colon}
+use Rattle.text_lines.specs.Lines.{lineFeed, colon}
 
 -- Every line ends in a line feed.
 abbrev pub ended : List ℕ → List ℕ

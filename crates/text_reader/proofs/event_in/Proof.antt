@@ -8,26 +8,26 @@ use Rattle.text_reader.proofs.event_in.Tie as tie
 find-requires : tie.Need-find-requires
 find-requires c κs = search needs
 
-slice-aggregate-word-in : tie.Need-slice-aggregate-word-in
-slice-aggregate-word-in c = sym (length-take-le _ _ (c .before .find .ensures .1))
+slice-aggregate-hexadecimal-in : tie.Need-slice-aggregate-hexadecimal-in
+slice-aggregate-hexadecimal-in c = sym (length-take-le _ _ (c .before .find .ensures .1))
 
-word-in-requires : tie.Need-word-in-requires
-word-in-requires c κs = search needs
+hexadecimal-in-requires : tie.Need-hexadecimal-in-requires
+hexadecimal-in-requires c κs = search needs
 
 past-requires : tie.Need-past-requires
 past-requires c κs = search needs
 
-sub-word-in : tie.Need-sub-word-in
-sub-word-in c = search needs
+sub-hexadecimal-in : tie.Need-sub-hexadecimal-in
+sub-hexadecimal-in c = search needs
 
-part-word-in-start : tie.Need-part-word-in-start
-part-word-in-start c = search needs
+part-hexadecimal-in-start : tie.Need-part-hexadecimal-in-start
+part-hexadecimal-in-start c = search needs
 
-part-word-in-end : tie.Need-part-word-in-end
-part-word-in-end c = search needs
+part-hexadecimal-in-end : tie.Need-part-hexadecimal-in-end
+part-hexadecimal-in-end c = search needs
 
-word-in-requires-2 : tie.Need-word-in-requires-2
-word-in-requires-2 c κs = search needs
+hexadecimal-in-requires-2 : tie.Need-hexadecimal-in-requires-2
+hexadecimal-in-requires-2 c κs = search needs
 
 returns : tie.Need-returns
 returns c =
@@ -35,18 +35,18 @@ returns c =
     let next = second .before .before in
     let first = next .before in
     let found = first .before .before in
-    event-there (found .before .before .args .said .now) (found .find .ensures .0) (next .past .ensures) (first .word-in .ensures) (second .word-in2 .ensures)
+    event-there (found .before .before .args .said .now) (found .find .ensures .0) (next .past .ensures) (first .hexadecimal-in .ensures) (second .hexadecimal-in2 .ensures)
 
 pub event-in-spec : {M : Type 1} → statement M
 event-in-spec =
     tie.close
     (tie.spec
     find-requires
-    slice-aggregate-word-in
-    word-in-requires
+    slice-aggregate-hexadecimal-in
+    hexadecimal-in-requires
     past-requires
-    sub-word-in
-    part-word-in-start
-    part-word-in-end
-    word-in-requires-2
+    sub-hexadecimal-in
+    part-hexadecimal-in-start
+    part-hexadecimal-in-end
+    hexadecimal-in-requires-2
     returns)

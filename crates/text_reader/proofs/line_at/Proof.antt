@@ -24,7 +24,7 @@ said-in-requires : tie.Need-said-in-requires
 said-in-requires c κs = search needs
 
 slice-aggregate-says-any : tie.Need-slice-aggregate-says-any
-slice-aggregate-says-any c = sym (length-take-le _ _ (c .before .said-in .ensures .1))
+slice-aggregate-says-any c = sym (length-take-le _ _ (c .before .said-in .ensures .1 .1))
 
 says-any-requires : tie.Need-says-any-requires
 says-any-requires c κs = search needs
@@ -44,9 +44,9 @@ returns c =
     let text = start .args .text .now in
     let from = start .args .from in
     let end = found .find .ensures in
-    let is = said-is text from (start .pre) (end .0) (end .1) (said .said-in .result) (said .said-in .ensures .0) (said .said-in .ensures .1) in
+    let is = said-is text from (start .pre) (end .0) (end .1) (said .said-in .result) (said .said-in .ensures .1 .0) (said .said-in .ensures .1 .1) in
     let next = next-there text from (start .pre) (end .0) (end .1) (c .past .ensures) in
-    (says-is text from (start .pre) (end .0) (end .1) (said .said-in .result) (said .said-in .ensures .0) (says .says-any .ensures), (is .0, (is .1, (next .0, (next .1, next .2)))))
+    (says-is text from (start .pre) (end .0) (end .1) (said .said-in .result) (said .said-in .ensures .1 .0) (says .says-any .ensures), (is .0, (is .1, (next .0, (next .1, next .2)))))
 
 pub line-at-spec : {M : Type 1} → statement M
 line-at-spec =

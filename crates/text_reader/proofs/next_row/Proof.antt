@@ -3,8 +3,8 @@ use mathlib.Core.Path.{_≡_, refl, sym}
 use mathlib.Core.Bool.{true≢false}
 use native.Mathlib.Omega.{arith}
 use lib.ListN.{length, drop}
-use Rattle.text_reader.specs.Lines.{linesIn}
-use Rattle.text_reader.specs.Rows.{rowsFrom}
+use Rattle.text_lines.specs.Lines.{linesIn}
+use Rattle.text_lines.specs.Rows.{rowsFrom}
 use Rattle.text_reader.specs.Reading.{textSize}
 use Rattle.text_reader.proofs.Turns.{row-past, row-found, one-line, no-row, no-line}
 use borrow.Author.Needs.{needs}

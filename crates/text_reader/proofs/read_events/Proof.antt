@@ -5,8 +5,8 @@ use native.Mathlib.Omega.{arith}
 use borrow.Author.Tests.{not-true, not-false}
 use lib.ListN.{length, take, drop}
 use Rattle.record.specs.Record.{mostEvents}
-use Rattle.text_reader.specs.Lines.{linesIn}
-use Rattle.text_reader.specs.Rows.{Row, rowsFrom}
+use Rattle.text_lines.specs.Lines.{linesIn}
+use Rattle.text_lines.specs.Rows.{Row, rowsFrom}
 use Rattle.text_reader.specs.Reading.{headIn, valueIn, numbersOf, textSize, eventsFault}
 use Rattle.text_reader.proofs.Turns.{rows-turn, count-turn, stored-turn, rows-end, fault-many, fault-event, fault-turn, fault-none, head-is, value-is}
 use borrow.Author.Needs.{needs}

@@ -30,17 +30,17 @@ returns-2 c =
     let e = c .faulty2 .ensures in
     (e .0 ∙ no-rows _ (row .before .if1 .left) (none .0) (none .1), (omega (arith, e .1), (λ z. absurd (omega (arith, z, ap (λ (f : Fault). f .why) (e .0))))))
 
-sub-word-in : tie.Need-sub-word-in
-sub-word-in c = search needs
+sub-decimal-in : tie.Need-sub-decimal-in
+sub-decimal-in c = search needs
 
-part-word-in-start : tie.Need-part-word-in-start
-part-word-in-start c = search needs
+part-decimal-in-start : tie.Need-part-decimal-in-start
+part-decimal-in-start c = search needs
 
-part-word-in-end : tie.Need-part-word-in-end
-part-word-in-end c = search needs
+part-decimal-in-end : tie.Need-part-decimal-in-end
+part-decimal-in-end c = search needs
 
-word-in-requires : tie.Need-word-in-requires
-word-in-requires c κs = search needs
+decimal-in-requires : tie.Need-decimal-in-requires
+decimal-in-requires c κs = search needs
 
 faulty-requires-3 : tie.Need-faulty-requires-3
 faulty-requires-3 c κs = search needs
@@ -52,7 +52,7 @@ returns-3 c =
     let row = test .before .before in
     let q = row .next-row .ensures .0 (not-false (row .next-row .result .found) (test .if2 .left)) in
     let e = c .faulty3 .ensures in (
-      e .0 ∙ sources-bad _ (row .before .if1 .left) _ q (first .word-in .ensures) (c .before .if3 .taken),
+      e .0 ∙ sources-bad _ (row .before .if1 .left) _ q (first .decimal-in .ensures) (c .before .if3 .taken),
       (omega (arith, e .1), (λ z. absurd (omega (arith, z, ap (λ (f : Fault). f .why) (e .0))))),
     )
 
@@ -84,7 +84,7 @@ returns-4 c =
     let row = test .before .before in
     let short = row .before .if1 .left in
     let q = row .next-row .ensures .0 (not-false (row .next-row .result .found) (test .if2 .left)) in
-    let v = first .word-in .ensures in
+    let v = first .decimal-in .ensures in
     let z = good .if3 .left in
     let events = read .read-events .ensures in (
       sources-good _ short _ q v z (events .0),
@@ -109,10 +109,10 @@ read-text-spec =
     next-row-requires
     faulty-requires-2
     returns-2
-    sub-word-in
-    part-word-in-start
-    part-word-in-end
-    word-in-requires
+    sub-decimal-in
+    part-decimal-in-start
+    part-decimal-in-end
+    decimal-in-requires
     faulty-requires-3
     returns-3
     add-read-events

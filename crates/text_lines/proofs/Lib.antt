@@ -1,0 +1,4 @@
+-- Laws of texts: marks and lines, numbers, what a line says.
+pub mod Marks
+pub mod Digits
+pub mod Rows
