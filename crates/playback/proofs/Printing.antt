@@ -30,7 +30,7 @@ abbrev pub Each : ℕ → List ℕ → Type 0
 Each bound l = (i : ℕ) → getD l i 0 < bound
 
 -- The line of an event, by the most digits of its index and its kind.
-pub line-length : (most-i most-k i k a r : ℕ) → length (decimal i) ≤ most-i → length (decimal k) ≤ most-k → a < 4294967296 → r < 256
+line-length : (most-i most-k i k a r : ℕ) → length (decimal i) ≤ most-i → length (decimal k) ≤ most-k → a < 4294967296 → r < 256
     → length (eventLine i k a r) ≤ most-i + 1 + most-k + 1 + 10 + 1 + 3 + 1
 unfolding ascii
 line-length most-i most-k i k a r hi hk ha hr = simp (length-append) (omega (arith, hi, hk, digits-of a 9 (omega arith), digits-of r 2 (omega arith)))

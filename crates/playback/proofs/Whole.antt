@@ -92,12 +92,12 @@ module _ (out x y z : List ℕ) (room : length (x ++ y ++ z) ≤ length out) whe
   first-room = room-first (length out) 0 x y (room-first (length out) 0 (x ++ y) z start-room)
 
   module _ {d : List ℕ} {a : ℕ} (first : Stands out 0 x a d) where
-    pub middle-room : a + length y ≤ length d
-    middle-room = room-second out 0 x y (room-first (length out) 0 (x ++ y) z start-room) first
+    pub second-room : a + length y ≤ length d
+    second-room = room-second out 0 x y (room-first (length out) 0 (x ++ y) z start-room) first
 
     module _ {d₂ : List ℕ} {b : ℕ} (middle : Stands d a y b d₂) where
-      pub last-room : b + length z ≤ length d₂
-      last-room = room-second out 0 (x ++ y) z start-room (two out 0 x y first middle)
+      pub third-room : b + length z ≤ length d₂
+      third-room = room-second out 0 (x ++ y) z start-room (two out 0 x y first middle)
 
       pub three-stand : {d₃ : List ℕ} {r : ℕ} → Stands d₂ b z r d₃ → (r ≡ length (x ++ y ++ z)) × (d₃ ≡ filled (x ++ y ++ z) out)
       three-stand last = at-start out (x ++ y ++ z) room (two out 0 (x ++ y) z (two out 0 x y first middle) last)

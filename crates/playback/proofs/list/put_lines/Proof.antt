@@ -1,7 +1,7 @@
 use lib.ListN.{length}
 use Rattle.digits.specs.Ascii.{ascii}
 use Rattle.playback.specs.Print.{firstLine, eventLines, endLine}
-use Rattle.playback.proofs.Whole.{first-room, middle-room, last-room, three-stand}
+use Rattle.playback.proofs.Whole.{first-room, second-room, third-room, three-stand}
 use borrow.Author.Needs.{needs}
 use Rattle.playback.proofs.list.put_lines.Statement.{statement}
 use Rattle.playback.proofs.list.put_lines.Tie as tie
@@ -26,7 +26,7 @@ put-events-requires c κs =
     let s = c .before .before .before .before .before .before .before .before .before .before .before in
     let first = firstLine (s .args .sources) (length (s .args .heads .now)) in
     let events = eventLines 0 (s .args .heads .now) (s .args .answers .now) (s .args .refusals .now) in
-    (s .pre .0, s .pre .1, middle-room (s .args .out .now) first events (endLine (s .args .m)) (s .pre .2) (c .before .before .before .put-line .ensures))
+    (s .pre .0, s .pre .1, second-room (s .args .out .now) first events (endLine (s .args .m)) (s .pre .2) (c .before .before .before .put-line .ensures))
 
 put-end-requires : tie.Need-put-end-requires
 unfolding ascii
@@ -34,7 +34,7 @@ put-end-requires c κs =
     let s = c .before .before .before .before .before .before .before .before .before .before .before .before .before .before .before in
     let first = firstLine (s .args .sources) (length (s .args .heads .now)) in
     let events = eventLines 0 (s .args .heads .now) (s .args .answers .now) (s .args .refusals .now) in
-    last-room (s .args .out .now) first events (endLine (s .args .m)) (s .pre .2) (c .before .before .before .before .before .before .before .put-line .ensures) (c .before .before .before .put-events .ensures)
+    third-room (s .args .out .now) first events (endLine (s .args .m)) (s .pre .2) (c .before .before .before .before .before .before .before .put-line .ensures) (c .before .before .before .put-events .ensures)
 
 same-length : tie.Need-same-length
 same-length c = search needs
