@@ -40,15 +40,21 @@ impl Checked {
         }
     }
 
+    // The machine m in this one's place. A function of its own: stored by `step` itself, the compiler copies the machine once more for each event.
+    fn with_machine(mut self, m: Machine) -> Checked
+        ensures { λ r. ⌜ r .machine ≡ m ⌝ }
+    {
+        self.machine = m;
+        self
+    }
+
     // One event, a head and a value.
     pub fn step(mut self, head: u32, value: u32) -> CheckedOutcome
         ensures { λ r. ⌜ r ≡ checkedStepOf self head value ⌝ }
     {
         let out = self.machine.sound_step(head, value);
-        let next = out.machine;
-        self.machine = next;
         CheckedOutcome {
-            checked: self,
+            checked: self.with_machine(out.machine),
             answer: out.answer,
             refusal: out.refusal,
         }
