@@ -16,7 +16,7 @@ use Rattle.counters.specs.Whole as whole
 use Rattle.counters.specs.Csrs as counters
 use Rattle.handlers_service.specs.declared.Outcome as handler
 use Rattle.handlers_service.specs.Events as service
-use Rattle.handlers_service.specs.Questions as questions
+use Rattle.handlers_questions.specs.Questions as questions
 use Rattle.handlers.specs.declared.Machine.{Machine}
 use Rattle.handlers.specs.declared.Outcome.{Outcome}
 use Rattle.handlers.specs.Fields.{withController, withService, withCounters}

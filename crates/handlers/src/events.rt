@@ -10,8 +10,8 @@ use counters::Counters;
 use counters::csrs::csr_at;
 use counters::csrs::is_csr;
 use event::kinds;
-use handlers_service::questions::may_store;
-use handlers_service::questions::may_write;
+use handlers_questions::may_store;
+use handlers_questions::may_write;
 use pic::Controller;
 
 impl Machine {

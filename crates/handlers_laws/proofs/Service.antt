@@ -10,6 +10,7 @@ use borrow.Author.Tests.{ne-eqb}
 use Rattle.pic.specs.declared.Controller.{Controller}
 use Rattle.pic.specs.Calls.{currentRank, setCurrent}
 use Rattle.handlers_stack.specs.declared.Handler.{Handler}
+use Rattle.handlers_questions.specs.Questions as questions
 use Rattle.handlers_service.specs.declared.Service.{Service}
 use Rattle.handlers_service.specs.declared.Outcome as handler
 use Rattle.handlers_service.specs.Fields as fields
@@ -35,7 +36,7 @@ abbrev pub nextSource : Machine → ℕ
 nextSource m = service.nextSource (m .service) (lookAt m)
 
 abbrev pub mayCommit : Machine → ℕ → Bool
-mayCommit m s = service.mayCommit s (nextSource m)
+mayCommit m s = questions.mayCommit s (nextSource m)
 
 abbrev pub newHandler : Machine → Handler
 newHandler m = service.handlerOf (lookAt m .winner) (currentRank (m .controller))

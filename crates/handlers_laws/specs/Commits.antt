@@ -8,7 +8,8 @@ use Rattle.event.specs.Kinds as kind
 use Rattle.event.specs.Event.{kindOf, addressOf}
 use Rattle.pic.specs.Sources.{thresholdOf, HasWinner}
 use Rattle.pic.specs.Calls.{sourceCount}
-use Rattle.handlers_service.specs.Events.{hasHandler, nextSource, mayCommit}
+use Rattle.handlers_questions.specs.Questions.{mayCommit}
+use Rattle.handlers_service.specs.Events.{hasHandler, nextSource}
 use Rattle.handlers.specs.declared.Machine.{Machine}
 use Rattle.handlers.specs.declared.Outcome.{Outcome}
 use Rattle.handlers.specs.Machines.{uppermost, soundOf}

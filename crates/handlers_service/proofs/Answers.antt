@@ -9,7 +9,8 @@ use Rattle.handlers_stack.specs.declared.Handler.{Handler}
 use Rattle.handlers_service.specs.declared.Service.{Service}
 use Rattle.handlers_service.specs.declared.Outcome.{Outcome}
 use Rattle.handlers_service.specs.Sound.{uppermost}
-use Rattle.handlers_service.specs.Events.{refused, ask, inHandler, servesIn, serves, nextIn, nextSource, mayCommit}
+use Rattle.handlers_questions.specs.Questions.{mayCommit}
+use Rattle.handlers_service.specs.Events.{refused, ask, inHandler, servesIn, serves, nextIn, nextSource}
 
 module _ (s : Service) where
   -- Questions 17 and 19 as the code asks them, of what the event does if both are answered yes.

@@ -9,6 +9,7 @@ use lib.Signed.{ltZ}
 use Rattle.pic.specs.declared.Look.{Look}
 use Rattle.pic_source.specs.declared.Rank.{Rank}
 use Rattle.pic_comparator.specs.declared.Winner.{Winner}
+use Rattle.handlers_questions.specs.Questions.{mayCommit}
 use Rattle.handlers_stack.specs.declared.Handler.{Handler}
 use Rattle.handlers_service.specs.declared.Service.{Service}
 use Rattle.handlers_service.specs.declared.Outcome.{Outcome}
@@ -118,10 +119,6 @@ nextSource s k = nextIn (uppermost s) k
 unfoldable pub lookOf : Service → Look → Outcome
 lookOf s k = inHandler s (accepted s (nextSource s k))
 
--- Commit: "26 when the committed number is 0 or isn't what a look would answer". The number is the whole address, so one above 255 is no source's.
-abbrev pub mayCommit : ℕ → ℕ → Bool
-mayCommit n next = not (eqb n 0) && eqb n next
-
--- 17. 19. 26, "after question 19". "It captures, replaces and answers as chain does."
+-- Commit: 17. 19. 26, "after question 19". "It captures, replaces and answers as chain does."
 unfoldable pub commitOf : Service → Look → ℕ → Outcome
 commitOf s k n = inHandler s (ask s (mayCommit n (nextSource s k)) 26 (served s k))

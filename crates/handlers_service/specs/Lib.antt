@@ -2,4 +2,3 @@
 pub mod Fields
 pub mod Sound
 pub mod Events
-pub mod Questions

@@ -6,9 +6,10 @@ ghost use lib.Dec.{ltb, eqb};
 ghost use lib.IntN.{pos};
 ghost use lib.Signed.{ltZ};
 ghost use Prim.Native.Nat.{_-_};
-ghost use Rattle.handlers_service.specs.Events.{pushed, takeOf, withUppermost, marked, openOf, servesIn, replaced, served, followed, chainOf, popped, returnOf, setMaskOf, nextIn, lookOf, mayCommit, commitOf};
+ghost use Rattle.handlers_service.specs.Events.{pushed, takeOf, withUppermost, marked, openOf, servesIn, replaced, served, followed, chainOf, popped, returnOf, setMaskOf, nextIn, lookOf, commitOf};
 use crate::Outcome;
 use crate::Service;
+use handlers_questions::may_commit;
 use handlers_stack::Handler;
 use handlers_stack::put;
 use pic::Look;
@@ -46,13 +47,6 @@ fn next_in(h: Handler, look: Look) -> u32
         return w.source as u32;
     }
     0
-}
-
-// Question 26: whether n may be committed where a look would answer this.
-fn may_commit(n: u32, next: u32) -> bool
-    ensures { λ r. ⌜ r ≡ mayCommit n next ⌝ }
-{
-    (n != 0) & (n == next)
 }
 
 // Questions 17 and 19: 0 where a handler is open and the mask is 0, else the number of the first no.

@@ -2,7 +2,6 @@
 // its published answers: one look at its sources, its current rank and its number of sources. What an accepted event does with the controller, the machine does.
 
 mod events;
-pub mod questions;
 mod sound;
 
 use handlers_stack::Handler;

@@ -1,6 +1,7 @@
 use mathlib.Core.Path.{_≡_, _∙_}
 use borrow.Author.Tests.{not-true, not-false}
-use Rattle.handlers_service.specs.Events.{nextSource, mayCommit, commitOf}
+use Rattle.handlers_questions.specs.Questions.{mayCommit}
+use Rattle.handlers_service.specs.Events.{nextSource, commitOf}
 use Rattle.handlers_service.proofs.Answers.{handler-no, handler-yes, may-asked}
 use borrow.Author.Needs.{needs}
 use Rattle.handlers_service.proofs.Service.commit.Statement.{statement}

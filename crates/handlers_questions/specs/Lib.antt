@@ -1,0 +1,2 @@
+-- The questions that are asked of numbers.
+pub mod Questions
