@@ -8,11 +8,12 @@ use crate::texts::{make, FAMILIES};
 /// How many texts came out in each way, in the order of `SORTS`.
 pub type Counts = [u64; SORTS.len()];
 
-pub const SORTS: [&str; 9] = [
+pub const SORTS: [&str; 10] = [
     "accepted",
     "more than 1,048,576 bytes",
     "not N",
     "not HEAD:VALUE",
+    "a head of fewer than eight digits",
     "more than 4,000 events",
     "refused 2",
     "refused 6",
@@ -27,12 +28,13 @@ pub fn sort(result: &Result<Vec<u8>, Fault>) -> usize {
         Err(Fault::TooLong) => 1,
         Err(Fault::Sources { .. }) => 2,
         Err(Fault::Event { .. }) => 3,
-        Err(Fault::TooMany { .. }) => 4,
+        Err(Fault::ShortHead { .. }) => 4,
+        Err(Fault::TooMany { .. }) => 5,
         Err(Fault::Question { refusal, .. }) => match refusal.number {
-            2 => 5,
-            6 => 6,
-            27 => 8,
-            _ => 7,
+            2 => 6,
+            6 => 7,
+            27 => 9,
+            _ => 8,
         },
     }
 }

@@ -1,5 +1,5 @@
 //! The record of a text: a line for N in decimal, then one for each event, its head and value in
-//! hexadecimal.
+//! hexadecimal, the head in eight digits.
 
 use crate::record::{
     self, may_be_read, may_be_written, Check, Record, Refusal, BOARD, MOST_EVENTS,
@@ -9,12 +9,16 @@ use std::fmt;
 /// The most bytes that a text has.
 pub const MOST_BYTES: usize = 1_048_576;
 
+/// The digits of a head.
+pub const HEAD_DIGITS: usize = 8;
+
 /// Why a text makes no record. Lines count from 1.
 #[derive(Clone, Copy, Debug, PartialEq, Eq)]
 pub enum Fault {
     TooLong,
     Sources { line: usize },
     Event { line: usize },
+    ShortHead { line: usize },
     TooMany { line: usize },
     Question { refusal: Refusal, line: usize },
 }
@@ -30,6 +34,10 @@ impl fmt::Display for Fault {
             Fault::Event { line } => write!(
                 text,
                 "refused at line {line}: not HEAD:VALUE in hexadecimal"
+            ),
+            Fault::ShortHead { line } => write!(
+                text,
+                "refused at line {line}: the head has fewer than eight digits"
             ),
             Fault::TooMany { line } => {
                 write!(text, "refused at line {line}: more than 4,000 events")
@@ -75,9 +83,12 @@ fn convert(text: &[u8], check: Check) -> Result<Vec<u8>, Fault> {
         if heads.len() == MOST_EVENTS {
             return Err(Fault::TooMany { line });
         }
-        let (head, value) = event(words).ok_or(Fault::Event { line })?;
-        heads.push(head);
-        values.push(value);
+        let (head, value) = parts(words).ok_or(Fault::Event { line })?;
+        if head.digits < HEAD_DIGITS {
+            return Err(Fault::ShortHead { line });
+        }
+        heads.push(head.number);
+        values.push(value.number);
         places.push(line);
     }
 
@@ -111,11 +122,25 @@ fn decimal(digits: &[u8]) -> Option<u32> {
     number(digits, 3, 10)
 }
 
-fn event(words: &[u8]) -> Option<(u32, u32)> {
+/// A head or a value as it is written: its number, and in how many digits.
+struct Part {
+    number: u32,
+    digits: usize,
+}
+
+/// The head and the value of a line, one to eight digits each.
+fn parts(words: &[u8]) -> Option<(Part, Part)> {
     let colon = words.iter().position(|&byte| byte == b':')?;
-    let head = number(trim(&words[..colon]), 8, 16)?;
-    let value = number(trim(&words[colon + 1..]), 8, 16)?;
+    let head = part(trim(&words[..colon]))?;
+    let value = part(trim(&words[colon + 1..]))?;
     Some((head, value))
+}
+
+fn part(digits: &[u8]) -> Option<Part> {
+    Some(Part {
+        number: number(digits, 8, 16)?,
+        digits: digits.len(),
+    })
 }
 
 /// The number of 1 to `most` digits.

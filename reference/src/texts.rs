@@ -4,7 +4,7 @@ use crate::event::*;
 use crate::generate::{self, bad_kind, bare_event, turn, use_unused};
 use crate::random::Random;
 use crate::record::{self, Record, BOARD};
-use crate::text::{canonical, MOST_BYTES};
+use crate::text::{canonical, HEAD_DIGITS, MOST_BYTES};
 
 pub struct Text {
     pub family: &'static str,
@@ -24,6 +24,7 @@ pub const FAMILIES: &[Family] = &[
     ("stray comments", stray_comments),
     ("colons", colons),
     ("digits", digits),
+    ("short heads", short_heads),
     ("foreign bytes", foreign_bytes),
     ("lines moved", lines_moved),
     ("last line", last_line),
@@ -120,7 +121,8 @@ fn choose_dress(random: &mut Random) -> Dress {
     }
 }
 
-/// A text of the record, with comments, skipped lines, blanks, zeros and the like.
+/// A text of the record, with comments, skipped lines, blanks, zeros before N and values, and the
+/// like. Heads have their eight digits.
 pub fn dress(record: &Record, random: &mut Random) -> Vec<u8> {
     let dress = choose_dress(random);
     let mut text = Vec::new();
@@ -129,9 +131,10 @@ pub fn dress(record: &Record, random: &mut Random) -> Vec<u8> {
     put_end(&mut text, &dress, random);
     for event in &record.events {
         put_skipped(&mut text, &dress, random);
-        put_part(&mut text, &format!("{:x}", event.head), 8, &dress, random);
+        let (head, value) = (format!("{:08x}", event.head), format!("{:x}", event.value));
+        put_part(&mut text, &head, HEAD_DIGITS, &dress, random);
         text.push(b':');
-        put_part(&mut text, &format!("{:x}", event.value), 8, &dress, random);
+        put_part(&mut text, &value, 8, &dress, random);
         put_end(&mut text, &dress, random);
     }
     put_skipped(&mut text, &dress, random);
@@ -322,10 +325,10 @@ fn digits(random: &mut Random) -> Vec<u8> {
         6 => format!(":{value:x}"),
         7 => format!("{head:08x}:"),
         8 => ":".to_string(),
-        9 => format!("{junk}{head:x}:{value:x}"),
+        9 => format!("{junk}{head:07x}:{value:x}"),
         10 => format!("{head:08x}:{junk}{value:x}"),
         11 => format!("{head:08x}:{value:x}{junk}"),
-        12 => format!("{head:04x} 0:{value:x}"),
+        12 => format!("{head:07x} 0:{value:x}"),
         _ => format!("{head:08x}:{value:08x}"),
     };
     let sources = record.sources;
@@ -347,6 +350,100 @@ fn digits(random: &mut Random) -> Vec<u8> {
         text.push('\n');
     }
     text.into_bytes()
+}
+
+/// The places of the heads of eight digits in a text.
+fn heads(text: &[u8]) -> Vec<usize> {
+    let (mut heads, mut start) = (Vec::new(), 0);
+    for line in text.split_inclusive(|&byte| byte == b'\n') {
+        let blank = |byte: &&u8| b" \t".contains(byte);
+        let blanks = line.iter().take_while(blank).count();
+        let digit = |byte: &&u8| byte.is_ascii_hexdigit();
+        if line[blanks..].iter().take_while(digit).count() == HEAD_DIGITS {
+            heads.push(start + blanks);
+        }
+        start += line.len();
+    }
+    heads
+}
+
+/// One of the heads of eight digits, often the first or the last.
+fn a_head(text: &[u8], random: &mut Random) -> Option<usize> {
+    let heads = heads(text);
+    let (&first, &last) = (heads.first()?, heads.last()?);
+    let any = random.pick(&heads);
+    Some(random.pick(&[first, last, any, any]))
+}
+
+/// Leaves a head one to seven of its digits, most times without changing its number, and gives its
+/// place.
+fn shorten_head(text: &mut Vec<u8>, random: &mut Random) -> Option<usize> {
+    let head = a_head(text, random)?;
+    let last = head + HEAD_DIGITS - 1;
+    let zeros = text[head..last].iter().take_while(|&&digit| digit == b'0');
+    let zeros = zeros.count() as u32;
+    let dropped = if zeros > 0 && random.chance(2, 3) {
+        head..head + random.between(1, zeros) as usize
+    } else if random.coin() {
+        head..head + random.between(1, 7) as usize
+    } else {
+        head + random.between(1, 7) as usize..last + 1
+    };
+    text.drain(dropped);
+    Some(head)
+}
+
+/// Makes the line of a head no HEAD:VALUE, whatever its head.
+fn spoil_line(text: &mut Vec<u8>, head: usize, random: &mut Random) {
+    let junk: [&[u8]; 9] = [b"/", b":", b"@", b"G", b"`", b"g", b"-", b"0x", b"#"];
+    let colon = next(text, head, b":");
+    match random.below(5) {
+        0 => insert(text, colon + 1, b"000000000"),
+        1 => insert(text, colon + 1, random.pick(&junk)),
+        2 => insert(text, colon, random.pick(&junk)),
+        3 => insert(text, head, random.pick(&junk[..8])),
+        _ => text[colon] = random.pick(b";.= \t,"),
+    }
+}
+
+/// Heads of one to seven digits, alone or beside other faults, in the same line or in others.
+fn short_heads(random: &mut Random) -> Vec<u8> {
+    let mut record = with_events(random);
+    // The lines come before the record's questions.
+    match random.below(10) {
+        0 => spoil_kind(&mut record, random),
+        1 => spoil_unused(&mut record, random),
+        2 => put_chains(&mut record, random),
+        3 => record.sources = random.pick(&[0, 1, 256, 999, 1000]),
+        _ => {}
+    }
+    let mut text = dress_or_not(&record, random);
+    let head = shorten_head(&mut text, random);
+    match random.below(10) {
+        // No HEAD:VALUE at all.
+        0 | 1 => {
+            if let Some(head) = head {
+                spoil_line(&mut text, head, random);
+            }
+        }
+        // The first bad line decides.
+        2 | 3 => {
+            if let Some(other) = a_head(&text, random) {
+                spoil_line(&mut text, other, random);
+            }
+        }
+        4 => {
+            for _ in 0..random.between(1, 3) {
+                shorten_head(&mut text, random);
+            }
+        }
+        5 => {
+            let place = a_place(&text, random);
+            text[place] = a_byte(random);
+        }
+        _ => {}
+    }
+    text
 }
 
 /// Other white space, a NUL, bytes outside ASCII, a byte order mark.
@@ -472,6 +569,9 @@ fn several_faults(random: &mut Random) -> Vec<u8> {
         record.sources = random.pick(&[0, 1, 256, 999]);
     }
     let mut text = dress_or_not(&record, random);
+    if random.chance(1, 4) {
+        shorten_head(&mut text, random);
+    }
     if random.chance(1, 3) {
         let place = a_place(&text, random);
         text[place] = a_byte(random);
@@ -619,12 +719,26 @@ fn event_counts(random: &mut Random) -> Vec<u8> {
         spoil_kind(&mut record, random);
     }
     let mut text = dress_or_not(&record, random);
+    if random.chance(1, 4) {
+        shorten_head(&mut text, random);
+    }
     // One more line, which may be one too many whatever it holds.
     if random.coin() {
         if text.last() != Some(&b'\n') {
             text.push(b'\n');
         }
-        text.extend(random.pick::<&[u8]>(&[b"?", b"4:\n", b"#\n", b" \r\n", b"0:0", b"\r\r\n"]));
+        let lines: [&[u8]; 9] = [
+            b"?",
+            b"4:\n",
+            b"#\n",
+            b" \r\n",
+            b"0:0",
+            b"50000:0\n",
+            b"0000000:0\n",
+            b"00000000:0",
+            b"\r\r\n",
+        ];
+        text.extend(random.pick(&lines));
     }
     if random.chance(1, 10) {
         let place = a_place(&text, random);
@@ -640,6 +754,7 @@ fn lengths(random: &mut Random) -> Vec<u8> {
         1 => byte_replaced(random),
         2 => event_counts(random),
         3 => unknown_kind(random),
+        4 => short_heads(random),
         _ => sound(random),
     };
     let size = match random.below(4) {
@@ -686,9 +801,27 @@ fn pad(size: usize, random: &mut Random) -> Vec<u8> {
 
 /// Random bytes, or bits of lines in any order.
 fn noise(random: &mut Random) -> Vec<u8> {
-    let bits: [&[u8]; 16] = [
-        b"0", b"5", b"F", b":", b"0:0", b"50000:0", b"\n", b"\n", b"\n", b"\r\n", b"\r", b" ",
-        b"\t", b"#", b"#a#\n", b"4",
+    let bits: [&[u8]; 20] = [
+        b"0",
+        b"5",
+        b"F",
+        b":",
+        b"0:0",
+        b"0000",
+        b"0005",
+        b"50000:0",
+        b"00000000:0",
+        b"00050000:0",
+        b"\n",
+        b"\n",
+        b"\n",
+        b"\r\n",
+        b"\r",
+        b" ",
+        b"\t",
+        b"#",
+        b"#a#\n",
+        b"4",
     ];
     let mut text = random.pick::<&[u8]>(&[b"", b"4\n", b"4\r\n"]).to_vec();
     let bytes = random.chance(1, 4);

@@ -298,10 +298,10 @@ fn failures_name_the_file() {
 #[test]
 fn text_writes_the_record_or_the_message() {
     let folder = folder("text");
-    let output = run(&folder, &["text"], b"4 # sources\r\n50000:0");
+    let output = run(&folder, &["text"], b"4 # sources\r\n00050000:0");
     ended(&output, 0, "");
     assert_eq!(output.stdout, b"\x01\0\0\0\x04\0\0\0\0\0\x05\0\0\0\0\0");
-    let output = run(&folder, &["text"], b"4\n50000;0\n");
+    let output = run(&folder, &["text"], b"4\n00050000;0\n");
     let message = "refused at line 2: not HEAD:VALUE in hexadecimal\n";
     ended(&output, 1, message);
     assert!(output.stdout.is_empty());
@@ -311,9 +311,20 @@ fn text_writes_the_record_or_the_message() {
 }
 
 #[test]
+fn both_say_that_a_head_is_short() {
+    let folder = folder("short head");
+    for command in ["text", "lay-out"] {
+        let output = run(&folder, &[command], b"4\n00050000:0\n50000:0\n0:0\n");
+        let message = "refused at line 3: the head has fewer than eight digits\n";
+        ended(&output, 1, message);
+        assert!(output.stdout.is_empty());
+    }
+}
+
+#[test]
 fn lay_out_makes_old_records_of_texts() {
     let folder = folder("lay-out");
-    let old = b"4\n50000:0\n70000:0 # chain\n";
+    let old = b"4\n00050000:0\n00070000:0 # chain\n";
     let output = run(&folder, &["text"], old);
     let words = "kind 7 is no longer written: chain by look and commit, 12 and 13";
     ended(&output, 1, &format!("refused 27 at 1 (line 3): {words}\n"));
@@ -327,15 +338,15 @@ fn lay_out_makes_old_records_of_texts() {
     assert_eq!(String::from_utf8(printed).unwrap(), lines);
     // All else is as it was.
     for text in [
-        &b"4\n50000;0\n"[..],
-        b"1\n70000:0",
-        b"4\n70000:0\nffff0000:0",
+        &b"4\n00050000;0\n"[..],
+        b"1\n00070000:0",
+        b"4\n00070000:0\nffff0000:0",
     ] {
         let output = run(&folder, &["lay-out"], text);
         assert_eq!(output.status.code(), Some(1));
         assert!(output.stdout.is_empty());
     }
-    let output = run(&folder, &["lay-out"], b"4\n0:0\n70001:0");
+    let output = run(&folder, &["lay-out"], b"4\n00000000:0\n00070001:0");
     let words = "an address or a value that the kind does not use is not 0";
     ended(&output, 1, &format!("refused 7 at 1 (line 3): {words}\n"));
 }

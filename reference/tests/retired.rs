@@ -480,66 +480,73 @@ fn refused_27(text: &[u8], place: usize, line: usize) {
 #[test]
 fn a_line_of_kind_7_is_refused_at_its_index() {
     assert_eq!(
-        message(b"4\n70000:0\n"),
+        message(b"4\n00070000:0\n"),
         "refused 27 at 0 (line 2): kind 7 is no longer written: chain by look and commit, 12 and 13"
     );
     for line in [
-        "70000:0",
         "00070000:0",
-        "070000:00000000",
-        " 70000\t: 0 ",
+        "00070000:00000000",
+        " 00070000\t: 0 ",
         "0007ffff:0",
-        "7FFFF:FFFFFFFF",
-        "70001:0",
-        "70000:1",
-        "70000:0 # chain",
-        "70000:0\r",
+        "0007FFFF:FFFFFFFF",
+        "00070001:0",
+        "00070000:1",
+        "00070000:0 # chain",
+        "00070000:0\r",
     ] {
         refused_27(format!("4\n{line}\n").as_bytes(), 0, 2);
         refused_27(format!("4\n{line}").as_bytes(), 0, 2);
-        refused_27(format!("\n# old\n255\n{line}\n0:0\n").as_bytes(), 0, 4);
-        refused_27(format!("4\n60000:0\n\n#\n80000:0\n{line}").as_bytes(), 2, 6);
+        refused_27(
+            format!("\n# old\n255\n{line}\n00000000:0\n").as_bytes(),
+            0,
+            4,
+        );
+        refused_27(
+            format!("4\n00060000:0\n\n#\n00080000:0\n{line}").as_bytes(),
+            2,
+            6,
+        );
     }
-    refused_27(b"4\nc0000:0\nd0002:0\n70000:0\n70000:0\n", 2, 4);
+    refused_27(b"4\n000c0000:0\n000d0002:0\n00070000:0\n00070000:0\n", 2, 4);
 }
 
 #[test]
 fn what_only_looks_like_kind_7_is_not() {
     for line in [
-        "7:0",
-        "70:0",
-        "700:0",
-        "7000:0",
+        "00000007:0",
+        "00000070:0",
+        "00000700:0",
+        "00007000:0",
         "00000007:7",
-        "0:70000",
+        "00000000:70000",
         "00017000:0",
-        "20007:70000",
-        "90000:7",
-        "b0007:0",
-        "d0007:0",
-        "60000:0",
-        "80000:0",
-        "c0000:0",
-        "0:0 # 70000:0",
+        "00020007:70000",
+        "00090000:7",
+        "000b0007:0",
+        "000d0007:0",
+        "00060000:0",
+        "00080000:0",
+        "000c0000:0",
+        "00000000:0 # 00070000:0",
     ] {
         assert!(to_record(format!("4\n{line}\n").as_bytes()).is_ok());
     }
     for (line, number) in [
-        ("700000:0", 6),
-        ("7000000:0", 6),
+        ("00700000:0", 6),
+        ("07000000:0", 6),
         ("70000000:0", 6),
-        ("170000:0", 6),
+        ("00170000:0", 6),
         ("80070000:0", 6),
         ("fff7ffff:7", 6),
-        ("80007:0", 7),
-        ("60000:7", 7),
-        ("c0007:0", 7),
-        ("d0007:7", 7),
+        ("00080007:0", 7),
+        ("00060000:7", 7),
+        ("000c0007:0", 7),
+        ("000d0007:7", 7),
     ] {
-        let text = format!("4\n{line}\n70000:0\n");
+        let text = format!("4\n{line}\n00070000:0\n");
         let start = format!("refused {number} at 0 (line 2): ");
         assert!(message(text.as_bytes()).starts_with(&start), "{line}");
-        refused_27(format!("4\n70000:0\n{line}\n").as_bytes(), 0, 2);
+        refused_27(format!("4\n00070000:0\n{line}\n").as_bytes(), 0, 2);
     }
 }
 
@@ -549,15 +556,20 @@ fn a_text_is_asked_about_its_lines_and_n_first() {
         let message = message(text);
         assert!(message.starts_with(start), "{message}");
     };
-    start(b"?\n70000:0\n", "refused at line 1: not N");
-    start(b"4\n70000:0\n?\n", "refused at line 3: not HEAD:VALUE");
+    start(b"?\n00070000:0\n", "refused at line 1: not N");
+    start(b"4\n00070000:0\n?\n", "refused at line 3: not HEAD:VALUE");
     start(b"4\n000070000:0\n", "refused at line 2: not HEAD:VALUE");
-    start(b"1\n70000:0\n", "refused 2 at 0 (line 1): ");
-    start(b"256\n70000:0\n", "refused 2 at 0 (line 1): ");
-    let full = [b"4\n", &b"70000:0\n".repeat(4000)[..]].concat();
+    start(b"4\n00070000:0\n70000:0\n", "refused at line 3: the head");
+    start(b"4\n70000:0\n", "refused at line 2: the head");
+    start(b"1\n00070000:0\n", "refused 2 at 0 (line 1): ");
+    start(b"256\n00070000:0\n", "refused 2 at 0 (line 1): ");
+    let full = [b"4\n", &b"00070000:0\n".repeat(4000)[..]].concat();
     refused_27(&full, 0, 2);
-    start(&[&full[..], b"0:0"].concat(), "refused at line 4002: more");
-    let last = [b"4\n", &b"0:0\n".repeat(3999)[..], b"70000:0"].concat();
+    start(
+        &[&full[..], b"00000000:0"].concat(),
+        "refused at line 4002: more",
+    );
+    let last = [b"4\n", &b"00000000:0\n".repeat(3999)[..], b"00070000:0"].concat();
     refused_27(&last, 3999, 4001);
 }
 
