@@ -121,6 +121,15 @@ fn word_in(part: &[u8], base: u32, most: usize) -> Number
     number_in(&rest[..to], base, most)
 }
 
+// The length of a part of a line without the blanks around it.
+pub fn size_in(part: &[u8]) -> usize
+    ensures { λ r. ⌜ r ≡ length (trimmed (now (part .entry))) ⌝ }
+{
+    let from = lead(part);
+    let rest = &part[from..];
+    kept(rest)
+}
+
 // The decimal number of at most three digits that a part of a line is, without the blanks around it.
 pub fn decimal_in(part: &[u8]) -> Number
     ensures { λ r. ⌜ r ≡ numberIn 10 3 (trimmed (now (part .entry))) ⌝ }

@@ -22,12 +22,15 @@ number-length n = digits-most 10 1 20 n
 
 why-length : (why : ℕ) → length (whyWords why) ≤ wordsSize
 unfolding ascii
-why-length why = by-case (eqb why 1) (eqb why 2)
+why-length why = by-case (eqb why 1) (eqb why 2) (eqb why 5)
   where
-    by-case : (a b : Bool) → length (cond a (ascii "not N, one to three decimal digits") (cond b (ascii "not HEAD:VALUE in hexadecimal") (wordsOf 3))) ≤ wordsSize
-    by-case true b = omega arith
-    by-case false true = omega arith
-    by-case false false = words-most 3
+    by-case : (a b d : Bool)
+        → length (cond a (ascii "not N, one to three decimal digits") (cond b (ascii "not HEAD:VALUE in hexadecimal") (cond d (ascii "the head has fewer than eight digits") (wordsOf 3))))
+        ≤ wordsSize
+    by-case true b d = omega arith
+    by-case false true d = omega arith
+    by-case false false true = omega arith
+    by-case false false false = words-most 3
 
 -- There is room for each message.
 pub bad-line-fits : (why line n : ℕ) → messageSize ≤ n → 0 + length (atLine line ++ saying (whyWords why)) ≤ n

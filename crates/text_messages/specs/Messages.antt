@@ -1,23 +1,28 @@
 -- What the converters of texts say on standard error. Numbers are decimal, in the fewest digits, and a message ends in a line feed.
 use Prim.Native.Nat.{ℕ, _+_}
-use mathlib.Core.Bool.{cond}
+use mathlib.Core.Bool.{Bool, cond, _||_}
 use mathlib.Core.List.{List, _++_}
 use lib.Dec.{eqb}
 use Rattle.digits.specs.Ascii.{ascii}
 use Rattle.digits.specs.Digits.{decimal, within}
 use Rattle.refusals.specs.Words.{wordsOf, wordsSize}
-use Rattle.text_reader.specs.Reading.{whyNotSources, whyNotEvent, whyTooMany}
+use Rattle.text_reader.specs.Reading.{whyNotSources, whyNotEvent, whyTooMany, whyShortHead}
 
 -- Behind a place: a colon, the words, and the end of the line.
 abbrev pub saying : List ℕ → List ℕ
 saying words = ascii ": " ++ words ++ ascii "\n"
 
--- Why a line is bad, by the reader's number: it is not N; it is no event; or it is that of an event too many, as refusal 3 says.
+-- Why a line is bad, by the reader's number: it is not N; it is no event; its head is too short; or it is that of an event too many, as refusal 3 says.
 abbrev pub whyWords : ℕ → List ℕ
 whyWords why =
     cond (eqb why whyNotSources) (ascii "not N, one to three decimal digits")
     (cond (eqb why whyNotEvent) (ascii "not HEAD:VALUE in hexadecimal")
-    (wordsOf 3))
+    (cond (eqb why whyShortHead) (ascii "the head has fewer than eight digits")
+    (wordsOf 3)))
+
+-- The numbers of a bad line.
+abbrev pub isOfLine : ℕ → Bool
+isOfLine why = within whyNotSources whyTooMany why || eqb why whyShortHead
 
 -- The place of a bad line: `refused at line 3`.
 abbrev pub atLine : ℕ → List ℕ
@@ -29,7 +34,7 @@ tooLong = ascii "refused: the text has more than 1,048,576 bytes\n"
 
 -- A text that is bad: why, and the line. Any number but those of a bad line is that of a text that is too long.
 abbrev pub badText : ℕ → ℕ → List ℕ
-badText why line = cond (within whyNotSources whyTooMany why) (atLine line ++ saying (whyWords why)) tooLong
+badText why line = cond (isOfLine why) (atLine line ++ saying (whyWords why)) tooLong
 
 -- A refusal and its place: `refused 6 at 1`.
 abbrev pub refusedAt : ℕ → ℕ → List ℕ

@@ -25,6 +25,7 @@ fn put_why(out: &mut [u8], at: usize, why: u8) -> usize
     match why {
         1 => put_text(out, at, b"not N, one to three decimal digits"),
         2 => put_text(out, at, b"not HEAD:VALUE in hexadecimal"),
+        5 => put_text(out, at, b"the head has fewer than eight digits"),
         _ => put_words(out, at, 3),
     }
 }
@@ -90,7 +91,7 @@ pub fn bad_text(why: u8, line: usize, out: &mut [u8; MESSAGE_SIZE]) -> usize
     ensures { λ _. ⌜ now (out .exit) ≡ filled (badText why line) (now (out .entry)) ⌝ }
     ensures { λ r. ⌜ HasFirst r (now (out .exit)) ⌝ }
 {
-    if (1 <= why) & (why <= 3) {
+    if ((1 <= why) & (why <= 3)) | (why == 5) {
         let a = put_line(out, line);
         return put_reason(out, a, why);
     }

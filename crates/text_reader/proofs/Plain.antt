@@ -14,7 +14,7 @@ use Rattle.record.specs.Record.{mostEvents}
 use Rattle.text_lines.specs.Lines.{before, linesIn}
 use Rattle.text_lines.specs.Rows.{carriageReturn, lastOf, withoutReturn, commentSign, saidIn, isBlank, withoutLead, keptOf, trimmed, saysAny, Row, rowsFrom, rowsOf}
 use Rattle.text_lines.specs.Numbers.{allDigits}
-use Rattle.text_reader.specs.Reading.{isSources, isEvent, noFault, eventsFault, textSize, textFault}
+use Rattle.text_reader.specs.Reading.{isSources, isEvent, hasWholeHead, noFault, eventsFault, textSize, textFault}
 use Rattle.text_reader.proofs.Sentences.{Free, empty, other}
 use Rattle.text_reader.proofs.Made.{by-rows}
 
@@ -90,10 +90,11 @@ pub no-more-rows : (k : ℕ) → rowsFrom k (linesIn []) ≡ []
 unfolding rowsFrom linesIn
 no-more-rows k = refl
 
--- The rows of events have no fault where each is an event, at most 4,000 of them.
-pub event-past : (k : ℕ) (row : Row) (rows : List Row) → k < mostEvents → isEvent (row .said) ≡ true → eventsFault k (row ∷ rows) ≡ eventsFault (suc k) rows
+-- The rows of events have no fault where each is an event whose head has eight digits, at most 4,000 of them.
+pub event-past : (k : ℕ) (row : Row) (rows : List Row) → k < mostEvents → isEvent (row .said) ≡ true → hasWholeHead (row .said) ≡ true
+    → eventsFault k (row ∷ rows) ≡ eventsFault (suc k) rows
 unfolding eventsFault
-event-past k row rows h e = rw (lt-leb mostEvents k h, e)
+event-past k row rows h e w = rw (lt-leb mostEvents k h, e, w)
 
 pub no-more-events : (k : ℕ) → eventsFault k [] ≡ noFault
 unfolding eventsFault

@@ -12,7 +12,7 @@ use Rattle.digits.specs.Digits.{digitOf, numberAfter}
 use Rattle.text_lines.specs.Lines.{before, after, linesIn}
 use Rattle.text_lines.specs.Rows.{withoutReturn, saidIn, withoutLead, keptOf, trimmed, saysAny, rowsFrom}
 use Rattle.text_lines.specs.Numbers.{allDigits}
-use Rattle.text_reader.specs.Reading.{notSources, notEvent, eventsFault, textFault, sourcesOfText, headsOfText, valuesOfText}
+use Rattle.text_reader.specs.Reading.{notSources, notEvent, shortHead, eventsFault, textFault, sourcesOfText, headsOfText, valuesOfText}
 use Rattle.text_reader.specs.Answers.{LinesAnswer, faulty, written, toRecordAnswer}
 
 -- To unfold this is to unfold every rule of a text.
@@ -87,7 +87,7 @@ pub two-returns : answer (ascii "4\r\r\n") ≡ faulty (notSources 1)
 unfolding rules
 two-returns = refl
 
-pub return-inside : answer (ascii "4\n50000\r:0\n") ≡ faulty (notEvent 2)
+pub return-inside : answer (ascii "4\n00050000\r:0\n") ≡ faulty (notEvent 2)
 unfolding rules
 return-inside = refl
 
@@ -96,36 +96,54 @@ pub nine-digits : answer (ascii "4\n000050000:0\nz\n") ≡ faulty (notEvent 2)
 unfolding rules
 nine-digits = refl
 
+-- A head of seven digits, which would be of another kind, and one of five; of two bad lines the first.
+pub seven-digits : answer (ascii "4\n000b7f0:0\n") ≡ faulty (shortHead 2)
+unfolding rules
+seven-digits = refl
+
+pub five-digits : answer (ascii "4\n00050000:0\n # take\n 50000 : 0\nz\n") ≡ faulty (shortHead 4)
+unfolding rules
+five-digits = refl
+
+-- A short head in a line that is no HEAD:VALUE, and one after such a line.
+pub short-and-no-value : answer (ascii "4\n50000:\n") ≡ faulty (notEvent 2)
+unfolding rules
+short-and-no-value = refl
+
+pub short-after-bad : answer (ascii "4\nz\n50000:0\n") ≡ faulty (notEvent 2)
+unfolding rules
+short-after-bad = refl
+
 -- No colon, two colons, and a blank within a number.
-pub no-colon : answer (ascii "4\n50000:0\n50000\n") ≡ faulty (notEvent 3)
+pub no-colon : answer (ascii "4\n00050000:0\n00050000\n") ≡ faulty (notEvent 3)
 unfolding rules
 no-colon = refl
 
-pub two-colons : answer (ascii "4\n50000:0:0\n") ≡ faulty (notEvent 2)
+pub two-colons : answer (ascii "4\n00050000:0:0\n") ≡ faulty (notEvent 2)
 unfolding rules
 two-colons = refl
 
-pub blank-inside : answer (ascii "4\n5 0000:0\n") ≡ faulty (notEvent 2)
+pub blank-inside : answer (ascii "4\n0005 0000:0\n") ≡ faulty (notEvent 2)
 unfolding rules
 blank-inside = refl
 
 -- A comment cuts the value off.
-pub cut-off : answer (ascii "4\n50000:#0\n") ≡ faulty (notEvent 2)
+pub cut-off : answer (ascii "4\n00050000:#0\n") ≡ faulty (notEvent 2)
 unfolding rules
 cut-off = refl
 
 -- N is 1, in line 2: question 2.
-pub one-source : answer (ascii "\n1\n50000:0\n") ≡ written (refusedAt 2 0) 2
+pub one-source : answer (ascii "\n1\n00050000:0\n") ≡ written (refusedAt 2 0) 2
 unfolding rules
 one-source = refl
 
 -- The second event is of no kind, in line 5: question 6 at place 1.
-pub no-kind : answer (ascii "4\n50000:0\n\n# no kind\ne0000:0\n") ≡ written (refusedAt 6 1) 5
+pub no-kind : answer (ascii "4\n00050000:0\n\n# no kind\n000e0000:0\n") ≡ written (refusedAt 6 1) 5
 unfolding rules
 no-kind = refl
 
 -- A take with a value: question 7 at place 0.
-pub unused : answer (ascii "4\n50000:1\n") ≡ written (refusedAt 7 0) 2
+pub unused : answer (ascii "4\n00050000:1\n") ≡ written (refusedAt 7 0) 2
 unfolding rules
 unused = refl
 
@@ -138,7 +156,7 @@ pub retired-after-7 : answer (ascii "4\n00050000:1\n00070000:0") ≡ written (re
 unfolding rules
 retired-after-7 = refl
 
-pub retired-before-7 : answer (ascii "4\n70000:0\n00050000:1") ≡ written (refusedAt 27 0) 2
+pub retired-before-7 : answer (ascii "4\n00070000:0\n00050000:1") ≡ written (refusedAt 27 0) 2
 unfolding rules
 retired-before-7 = refl
 

@@ -1,6 +1,6 @@
 -- The rules in plain sentences: the parts of a line, the lines of a text, blanks, rows, and the first fault.
 use mathlib.Core.Path.{_≡_, refl, sym, ap, _∙_}
-use mathlib.Core.Bool.{Bool, true, false, cond, true≢false}
+use mathlib.Core.Bool.{Bool, true, false, cond, not, true≢false}
 use mathlib.Core.Logic.{_⊎_, inl, inr}
 use Prim.Native.Nat.{ℕ, zero, suc, _+_, _-_, _≤_, _<_}
 use native.Mathlib.Nat.{add-zero, add-suc, suc-add}
@@ -13,7 +13,7 @@ use Rattle.record.specs.Record.{mostEvents}
 use Rattle.text_reader.specs.declared.Fault.{Fault}
 use Rattle.text_lines.specs.Lines.{lineFeed, before, after, onto, linesIn}
 use Rattle.text_lines.specs.Rows.{saidIn, isBlank, withoutLead, keptOf, saysAny, Row, rowsFrom}
-use Rattle.text_reader.specs.Reading.{isEvent, notEvent, tooMany, eventsFault}
+use Rattle.text_reader.specs.Reading.{isEvent, hasWholeHead, notEvent, tooMany, shortHead, eventsFault}
 
 -- No byte of the list is the mark.
 pub data Free (mark : ℕ) : List ℕ → Type 0 where
@@ -224,46 +224,61 @@ unfolding rowsFrom
 rows-rise k [] i j l h = absurd (omega arith)
 rows-rise k (line ∷ lines) i j l h = rise-step (saysAny line) k line lines refl (rows-rise (suc k) lines) i j l h
 
--- Row i of events, of which k stand before the first: it is good where it is an event, one of the first 4,000.
+-- A row that says an event, with a head of eight digits.
+abbrev WellSaid : Row → Type 0
+WellSaid row = (isEvent (row .said) ≡ true) × (hasWholeHead (row .said) ≡ true)
+
+-- Row i of events, of which k stand before the first: it is good where it says so, one of the first 4,000.
 abbrev IsGood : ℕ → List Row → ℕ → Type 0
-IsGood k rows i = (isEvent (getD rows i noRow .said) ≡ true) × (k + i < mostEvents)
+IsGood k rows i = WellSaid (getD rows i noRow) × (k + i < mostEvents)
+
+-- What is wrong with row i: it is one more than 4,000; it is no event; or it is one whose head does not have eight digits.
+abbrev IsBad : ℕ → List Row → ℕ → Fault → Type 0
+IsBad k rows i f =
+    ((f ≡ tooMany (getD rows i noRow .number)) × (mostEvents ≤ k + i))
+    ⊎ (((f ≡ notEvent (getD rows i noRow .number)) × (k + i < mostEvents) × (isEvent (getD rows i noRow .said) ≡ false))
+    ⊎ ((f ≡ shortHead (getD rows i noRow .number)) × (k + i < mostEvents) × (isEvent (getD rows i noRow .said) ≡ true)
+    × (hasWholeHead (getD rows i noRow .said) ≡ false)))
 
 -- The first fault: every row before it is good, and it is the line of a row that is not, with the reason.
 pub record FirstFault (k : ℕ) (rows : List Row) (f : Fault) : Type 0 where
   pub index : ℕ
   pub inside : index < length rows
   pub earlier : (j : ℕ) → j < index → IsGood k rows j
-  pub there : ((f ≡ tooMany (getD rows index noRow .number)) × (mostEvents ≤ k + index))
-      ⊎ ((f ≡ notEvent (getD rows index noRow .number)) × (k + index < mostEvents) × (isEvent (getD rows index noRow .said) ≡ false))
+  pub there : IsBad k rows index f
 
 -- A list of rows has a first fault, or all of them are good.
 abbrev Found : ℕ → List Row → Fault → Type 0
 Found k rows f = ((f .why ≡ 0 → ⊥) × FirstFault k rows f) ⊎ ((f .why ≡ 0) × ((j : ℕ) → j < length rows → IsGood k rows j))
 
-good-rows : (k n : ℕ) (row : Row) (rows : List Row) → isEvent (row .said) ≡ true → k < mostEvents → ((j : ℕ) → j < n → IsGood (suc k) rows j)
+good-rows : (k n : ℕ) (row : Row) (rows : List Row) → WellSaid row → k < mostEvents → ((j : ℕ) → j < n → IsGood (suc k) rows j)
     → (j : ℕ) → j < suc n → IsGood k (row ∷ rows) j
 good-rows k n row rows e few f zero h = (e, omega arith)
 good-rows k n row rows e few f (suc j) h = let h′ : j < n = omega arith in (f j h′ .0, omega (arith, f j h′ .1))
 
-found-later : (k : ℕ) (row : Row) (rows : List Row) (f : Fault) → isEvent (row .said) ≡ true → k < mostEvents → Found (suc k) rows f → Found k (row ∷ rows) f
+found-later : (k : ℕ) (row : Row) (rows : List Row) (f : Fault) → WellSaid row → k < mostEvents → Found (suc k) rows f → Found k (row ∷ rows) f
 found-later k row rows f e few (inr g) = inr (g .0, good-rows k (length rows) row rows e few (g .1))
 found-later k row rows f e few (inl b) =
     let at = b .1 in
     let on : suc k + at .index ≡ k + suc (at .index) = omega arith in
     inl (b .0, record { index = suc (at .index); inside = omega (arith, at .inside); earlier = good-rows k (at .index) row rows e few (at .earlier); there = rw on at (at .there) })
 
-fault-step : (full event : Bool) (k : ℕ) (row : Row) (rows : List Row) (f : Fault) → leb mostEvents k ≡ full → isEvent (row .said) ≡ event → Found (suc k) rows f
-    → Found k (row ∷ rows) (cond full (tooMany (row .number)) (cond event f (notEvent (row .number))))
-fault-step true event k row rows f e v next =
-    inl ((λ z. omega arith), record { index = 0; inside = omega arith; earlier = λ j h. absurd (omega arith); there = inl (refl, omega (arith, leb-true mostEvents k e)) })
-fault-step false true k row rows f e v next = found-later k row rows f v (leb-false mostEvents k e) next
-fault-step false false k row rows f e v next =
-    inl ((λ z. omega arith), record { index = 0; inside = omega arith; earlier = λ j h. absurd (omega arith); there = inr (refl, omega (arith, leb-false mostEvents k e), v) })
+found-first : (k : ℕ) (row : Row) (rows : List Row) (f : Fault) → (f .why ≡ 0 → ⊥) → IsBad k (row ∷ rows) 0 f → Found k (row ∷ rows) f
+found-first k row rows f some bad = inl (some, record { index = 0; inside = omega arith; earlier = λ j h. absurd (omega arith); there = bad })
+
+fault-step : (full event whole : Bool) (k : ℕ) (row : Row) (rows : List Row) (f : Fault) → leb mostEvents k ≡ full → isEvent (row .said) ≡ event → hasWholeHead (row .said) ≡ whole
+    → Found (suc k) rows f
+    → Found k (row ∷ rows) (cond full (tooMany (row .number)) (cond (not event) (notEvent (row .number)) (cond (not whole) (shortHead (row .number)) f)))
+fault-step true event whole k row rows f e v w next = found-first k row rows _ (λ z. omega arith) (inl (refl, omega (arith, leb-true mostEvents k e)))
+fault-step false false whole k row rows f e v w next = found-first k row rows _ (λ z. omega arith) (inr (inl (refl, omega (arith, leb-false mostEvents k e), v)))
+fault-step false true false k row rows f e v w next = found-first k row rows _ (λ z. omega arith) (inr (inr (refl, omega (arith, leb-false mostEvents k e), v, w)))
+fault-step false true true k row rows f e v w next = found-later k row rows f (v, w) (leb-false mostEvents k e) next
 
 pub fault-is : (k : ℕ) (rows : List Row) → Found k rows (eventsFault k rows)
 unfolding eventsFault
 fault-is k [] = inr (refl, (λ j h. absurd (omega arith)))
-fault-is k (row ∷ rows) = fault-step (leb mostEvents k) (isEvent (row .said)) k row rows (eventsFault (suc k) rows) refl refl (fault-is (suc k) rows)
+fault-is k (row ∷ rows) =
+    fault-step (leb mostEvents k) (isEvent (row .said)) (hasWholeHead (row .said)) k row rows (eventsFault (suc k) rows) refl refl refl (fault-is (suc k) rows)
 
 -- Before the mark that follows a list without it stands the list, and after it the rest.
 pub before-free : (mark : ℕ) {xs : List ℕ} (rest : List ℕ) → Free mark xs → before mark (xs ++ mark ∷ rest) ≡ xs

@@ -6,7 +6,7 @@ use native.Mathlib.Numerals.{add-one}
 use native.Mathlib.Omega.{arith}
 use mathlib.Core.List.{List, [], _∷_, _++_, map, map-append}
 use borrow.Author.Tests.{le-leb, lt-leb, not-true, not-false}
-use lib.Dec.{leb, ltb}
+use lib.Dec.{leb, ltb, eqb}
 use lib.ListN.{length, take, drop, set, length-drop, drop-of-length-le}
 use lib.Seq.{take-suc-set, take-take, drop-drop, length-take-le}
 use Rattle.record.specs.Record.{mostEvents}
@@ -16,15 +16,15 @@ use Rattle.text_lines.specs.declared.Number.{Number}
 use Rattle.text_lines.specs.Lines.{lineFeed, before, after, linesIn}
 use Rattle.text_lines.specs.Rows.{saidIn, withoutLead, trimmed, saysAny, Row, rowsFrom}
 use Rattle.text_lines.specs.Numbers.{numberIn}
-use Rattle.text_reader.specs.Reading.{headPart, valuePart, isEvent, headIn, valueIn, eventIn, noFault, notEvent, tooMany, eventsFault}
+use Rattle.text_reader.specs.Reading.{headPart, valuePart, isEvent, hasWholeHead, headIn, valueIn, eventIn, noFault, notEvent, tooMany, shortHead, eventsFault}
 use Rattle.text_lines.proofs.Marks.{up-to, from-past, rest-of, lines-first}
 use Rattle.text_lines.proofs.Digits.{and-true, found-ok, found-value}
 
 -- The parts of a row: what is read of them is the event of the row.
-pub event-there : (said : List ℕ) {at next : ℕ} {h v : Number} → at ≡ length (before 58 said) → next ≡ min (at + 1) (length said)
-    → h ≡ numberIn 16 8 (trimmed (take at said)) → v ≡ numberIn 16 8 (trimmed (take (length said - next) (drop next said)))
-    → record { ok = h .ok && v .ok; head = h .value; value = v .value } ≡ eventIn said
-event-there said {at} {next} ea en eh ev = rw (eh, ev, rest-of said next, up-to 58 said ea, from-past 58 said ea en)
+pub event-there : (said : List ℕ) {at next size : ℕ} {h v : Number} → at ≡ length (before 58 said) → next ≡ min (at + 1) (length said)
+    → h ≡ numberIn 16 8 (trimmed (take at said)) → size ≡ length (trimmed (take at said)) → v ≡ numberIn 16 8 (trimmed (take (length said - next) (drop next said)))
+    → record { ok = h .ok && v .ok; whole = eqb size 8; head = h .value; value = v .value } ≡ eventIn said
+event-there said {at} {next} ea en eh es ev = rw (eh, es, ev, rest-of said next, up-to 58 said ea, from-past 58 said ea en)
 
 -- What is found in a row is an event just where it is one.
 pub event-ok : (said : List ℕ) → eventIn said .ok ≡ isEvent said
@@ -148,9 +148,13 @@ module _ (rows : List Row) (n : ℕ) (row : Row) {rest x : List Row} (e : drop n
 pub rows-end : (rows : List Row) (n : ℕ) {x : List Row} → n ≤ length rows → drop n rows ≡ x → x ≡ [] → n ≡ length rows
 rows-end rows n l e z = omega (arith, length-drop n rows, ap length (e ∙ z))
 
--- The first fault of the rows of events: at a row more than 4,000, at one that is no event, and past one that is.
+-- The first fault of the rows of events: at a row more than 4,000, at one that is no event, at one with a short head, and past one that is good.
 module _ (n : ℕ) (row : Row) {rest x : List Row} (q : x ≡ row ∷ rest) where
-  fault-here : eventsFault n x ≡ cond (leb mostEvents n) (tooMany (row .number)) (cond (isEvent (row .said)) (eventsFault (suc n) rest) (notEvent (row .number)))
+  fault-here : eventsFault n x
+      ≡ cond (leb mostEvents n) (tooMany (row .number))
+      (cond (not (isEvent (row .said))) (notEvent (row .number))
+      (cond (not (hasWholeHead (row .said))) (shortHead (row .number))
+      (eventsFault (suc n) rest)))
   unfolding eventsFault
   fault-here = rw q
 
@@ -161,11 +165,17 @@ module _ (n : ℕ) (row : Row) {rest x : List Row} (q : x ≡ row ∷ rest) wher
     ok-is : v .ok ≡ isEvent (row .said)
     ok-is = ap (λ (w : Event). w .ok) ev ∙ event-ok (row .said)
 
-    pub fault-event : not (v .ok) ≡ true → {f : Fault} → f ≡ eventsFault n x → notEvent (row .number) ≡ f
-    fault-event z ef = sym (ef ∙ fault-here ∙ rw (lt-leb _ _ h, ← ok-is, not-true (v .ok) z))
+    whole-is : v .whole ≡ hasWholeHead (row .said)
+    whole-is = ap (λ (w : Event). w .whole) ev
 
-    pub fault-turn : not (v .ok) ≡ false → {f : Fault} → f ≡ eventsFault n x → f ≡ eventsFault (n + 1) rest
-    fault-turn z ef = ef ∙ fault-here ∙ rw (lt-leb _ _ h, ← ok-is, not-false (v .ok) z, add-one)
+    pub fault-event : not (v .ok) ≡ true → {f : Fault} → f ≡ eventsFault n x → notEvent (row .number) ≡ f
+    fault-event z ef = sym (ef ∙ fault-here ∙ rw (lt-leb _ _ h, ← ok-is, z))
+
+    pub fault-short : not (v .ok) ≡ false → not (v .whole) ≡ true → {f : Fault} → f ≡ eventsFault n x → shortHead (row .number) ≡ f
+    fault-short z w ef = sym (ef ∙ fault-here ∙ rw (lt-leb _ _ h, ← ok-is, z, ← whole-is, w))
+
+    pub fault-turn : not (v .ok) ≡ false → not (v .whole) ≡ false → {f : Fault} → f ≡ eventsFault n x → f ≡ eventsFault (n + 1) rest
+    fault-turn z w ef = ef ∙ fault-here ∙ rw (lt-leb _ _ h, ← ok-is, z, ← whole-is, w, add-one)
 
     is-good : not (v .ok) ≡ false → eventIn (row .said) .ok ≡ true
     is-good z = ap (λ (w : Event). w .ok) (sym ev) ∙ not-false (v .ok) z

@@ -1,9 +1,9 @@
 -- The text of a record: N in its first row, then a row head:value for each event.
 use Prim.Native.Nat.{ℕ, suc, _^_}
-use mathlib.Core.Bool.{Bool, cond, _&&_}
+use mathlib.Core.Bool.{Bool, cond, not, _&&_}
 use mathlib.Core.List.{List, [], _∷_, map}
 use lib.ListN.{length, getD, drop}
-use lib.Dec.{leb}
+use lib.Dec.{leb, eqb}
 use Rattle.record.specs.Record.{mostEvents}
 use Rattle.text_lines.specs.Lines.{colon, before, after, linesIn}
 use Rattle.text_lines.specs.Rows.{trimmed, Row, rowsOf}
@@ -33,6 +33,10 @@ isWord = isNumber 16 8
 abbrev pub isEvent : List ℕ → Bool
 isEvent said = isWord (headPart said) && isWord (valuePart said)
 
+-- A head has eight digits.
+abbrev pub hasWholeHead : List ℕ → Bool
+hasWholeHead said = eqb (length (headPart said)) 8
+
 abbrev pub headIn : Row → ℕ
 headIn row = numberOf 16 (headPart (row .said))
 
@@ -44,6 +48,7 @@ abbrev pub eventIn : List ℕ → Event
 eventIn said =
     record {
       ok = numberIn 16 8 (headPart said) .ok && numberIn 16 8 (valuePart said) .ok;
+      whole = hasWholeHead said;
       head = numberIn 16 8 (headPart said) .value;
       value = numberIn 16 8 (valuePart said) .value;
     }
@@ -86,13 +91,21 @@ tooLong = fault whyTooLong 0
 abbrev pub textSize : ℕ
 textSize = 2 ^ 20
 
+-- 5: the head has fewer than eight digits.
+abbrev pub whyShortHead : ℕ
+whyShortHead = 5
+
+abbrev pub shortHead : ℕ → Fault
+shortHead = fault whyShortHead
+
 -- The first fault of rows of events, of which k stand before them.
 unfoldable pub eventsFault : ℕ → List Row → Fault
 eventsFault k [] = noFault
 eventsFault k (row ∷ rows) =
     cond (leb mostEvents k) (tooMany (row .number))
-    (cond (isEvent (row .said)) (eventsFault (suc k) rows)
-    (notEvent (row .number)))
+    (cond (not (isEvent (row .said))) (notEvent (row .number))
+    (cond (not (hasWholeHead (row .said))) (shortHead (row .number))
+    (eventsFault (suc k) rows)))
 
 -- The first fault of a text's rows. A text without a row has no N: it is missed in the line after the last.
 abbrev pub rowsFault : ℕ → List Row → Fault

@@ -19,11 +19,12 @@ use text_lines::find;
 use text_lines::hexadecimal_in;
 use text_lines::said_in;
 use text_lines::says_any;
+use text_lines::size_in;
 
 // The most bytes of a text.
 pub const TEXT_SIZE: usize = 1048576;
 
-// Why a text is refused: a line is not N, or not HEAD:VALUE, or is that of an event too many; or there are too many bytes.
+// Why a text is refused: a line is not N, or not HEAD:VALUE, or is that of an event too many; or there are too many bytes; or a head is too short.
 pub const NOT_SOURCES: u8 = 1;
 
 pub const NOT_EVENT: u8 = 2;
@@ -31,6 +32,8 @@ pub const NOT_EVENT: u8 = 2;
 pub const TOO_MANY: u8 = 3;
 
 pub const TOO_LONG: u8 = 4;
+
+pub const SHORT_HEAD: u8 = 5;
 
 // What making a record of a text answers: the record's length; why the text is refused, and its line, from 1 (0 where there are too many bytes); or the refusal of the
 // record's questions, its place, and the line that it is about.
@@ -55,9 +58,10 @@ struct Fault {
     line: usize,
 }
 
-// The event of a row; ok where the row is good.
+// The event of a row; ok where it is one, whole where its head has eight digits.
 struct Event {
     ok: bool,
+    whole: bool,
     head: u32,
     value: u32,
 }
@@ -105,11 +109,14 @@ fn event_in(said: &[u8]) -> Event
     ensures { λ r. ⌜ r ≡ eventIn (now (said .entry)) ⌝ }
 {
     let at = find(said, b':');
-    let head = hexadecimal_in(&said[..at]);
+    let first = &said[..at];
+    let head = hexadecimal_in(first);
+    let size = size_in(first);
     let next = past(at, said.len());
     let value = hexadecimal_in(&said[next..]);
     Event {
         ok: head.ok & value.ok,
+        whole: size == 8,
         head: head.value,
         value: value.value,
     }
@@ -208,6 +215,12 @@ fn read_events(
         if !event.ok {
             break Fault {
                 why: NOT_EVENT,
+                line: number,
+            };
+        }
+        if !event.whole {
+            break Fault {
+                why: SHORT_HEAD,
                 line: number,
             };
         }

@@ -11,7 +11,7 @@ use lib.Dec.{ltb, lit<, lit≤}
 use lib.ListN.{length, getD, replicate, length-append, length-replicate}
 use Rattle.buffers.specs.Filled.{filled}
 use Rattle.digits.specs.Digits.{glyph, digitsTo, decimal, hexadecimal, numberOf}
-use Rattle.digits.proofs.Digits.{digits-most}
+use Rattle.digits.proofs.Digits.{digits-most, exact-length}
 use Rattle.digits.proofs.Meaning.{digits-length, digits-number}
 use Rattle.digits.proofs.Signs.{Signs, none, more, digits-signs, digits-some}
 use Rattle.record.specs.Record.{board, countOf, sourcesOf, headsOf, valuesOf, recordSize, mostEvents}
@@ -27,7 +27,7 @@ use Rattle.record.proofs.Parts.{heads-below, values-below}
 use Rattle.text_lines.specs.Lines.{lineFeed, colon, linesIn}
 use Rattle.text_lines.specs.Numbers.{isNumber}
 use Rattle.text_lines.specs.Rows.{trimmed, Row, rowsFrom, rowsOf}
-use Rattle.text_reader.specs.Reading.{headPart, valuePart, isEvent, headIn, valueIn, noFault, eventsFault, textSize, textFault, sourcesOfText, headsOfText, valuesOfText, numbersOf}
+use Rattle.text_reader.specs.Reading.{headPart, valuePart, isEvent, hasWholeHead, headIn, valueIn, noFault, eventsFault, textSize, textFault, sourcesOfText, headsOfText, valuesOfText, numbersOf}
 use Rattle.text_reader.specs.Answers.{written, lineOf, writerAnswer, toRecordAnswer, toRecordBytes}
 use Rattle.text_reader.proofs.Sentences.{Free, empty, other, free-append, before-free, after-free}
 use Rattle.text_lines.proofs.Marks.{lines-first}
@@ -103,6 +103,9 @@ module _ (head value : ℕ) (hh : head < 2 ^ 32) (hv : value < 2 ^ 32) where
   event-there : isEvent (eventText head value) ≡ true
   event-there = rw (head-part, value-part, word-there 8 head hh, word-there 1 value hv)
 
+  whole-there : hasWholeHead (eventText head value) ≡ true
+  whole-there = rw (head-part, exact-length 16 8 head)
+
   head-of-line : (k : ℕ) → headIn (record { number = k; said = eventText head value }) ≡ head
   head-of-line k = rw head-part (word-of-digits 8 head hh)
 
@@ -139,7 +142,7 @@ events-good j k (x ∷ heads) (y ∷ values) hh hv few =
     let fits : j < mostEvents = omega arith in
     let few′ : suc j + length heads ≤ mostEvents = omega arith in
     ap (eventsFault j) (event-row k x y (eventsText heads values))
-    ∙ event-past j (record { number = k; said = eventText x y }) (rowsFrom (suc k) (linesIn (eventsText heads values))) fits (event-there x y (hh 0) (hv 0))
+    ∙ event-past j (record { number = k; said = eventText x y }) (rowsFrom (suc k) (linesIn (eventsText heads values))) fits (event-there x y (hh 0) (hv 0)) (whole-there x y (hh 0) (hv 0))
     ∙ events-good (suc j) (suc k) heads values (λ i. hh (suc i)) (λ i. hv (suc i)) few′
 
 events-of-lines : (k : ℕ) (heads values : List ℕ) → Below (2 ^ 32) heads → Below (2 ^ 32) values → length heads ≡ length values

@@ -1,9 +1,11 @@
 use Prim.Native.Nat.{_≤_}
+use mathlib.Core.Path.{_≡_}
+use mathlib.Core.Bool.{true, false}
 use lib.ListN.{length}
 use mathlib.Core.List.{_++_}
 use Rattle.digits.specs.Ascii.{ascii}
 use Rattle.digits.proofs.Pieces.{put, two, room-first, room-second}
-use Rattle.text_messages.specs.Messages.{saying, whyWords, atLine, tooLong, messageSize}
+use Rattle.text_messages.specs.Messages.{saying, whyWords, isOfLine, atLine, tooLong, messageSize}
 use Rattle.text_messages.proofs.Messages.{bad-line-fits, too-long-fits, made}
 use borrow.Author.Needs.{needs}
 use Rattle.text_messages.proofs.bad_text.Statement.{statement}
@@ -25,7 +27,8 @@ returns : tie.Need-returns
 returns c =
     let a = c .before .before .before .before .before .args in
     let room : messageSize ≤ length (a .out .now) = search needs in
-    rw (c .before .before .before .before .if1 .taken)
+    let bad : isOfLine (a .why) ≡ true = c .before .before .before .before .if1 .taken in
+    rw bad
     (made (a .out .now) ((atLine (a .line)) ++ (saying (whyWords (a .why)))) (bad-line-fits (a .why) (a .line) (length (a .out .now)) room)
     (two (a .out .now) 0 (atLine (a .line)) (saying (whyWords (a .why))) (c .before .before .put-line .ensures) (c .put-reason .ensures)))
 
@@ -41,7 +44,8 @@ returns-2 c =
     let a = c .before .before .before .before .args in
     let room : messageSize ≤ length (a .out .now) = search needs in
     let fits = too-long-fits (length (a .out .now)) room in
-    rw (c .before .before .before .if1 .left) (made (a .out .now) tooLong fits (put (a .out .now) 0 tooLong fits (c .put-text .ensures .0) (c .put-text .ensures .1)))
+    let long : isOfLine (a .why) ≡ false = c .before .before .before .if1 .left in
+    rw long (made (a .out .now) tooLong fits (put (a .out .now) 0 tooLong fits (c .put-text .ensures .0) (c .put-text .ensures .1)))
 
 pub bad-text-spec : {M : Type 1} → statement M
 bad-text-spec =

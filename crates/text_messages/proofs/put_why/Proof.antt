@@ -16,6 +16,12 @@ slice-aggregate-put-text-2 c = search needs
 put-text-requires-2 : tie.Need-put-text-requires-2
 put-text-requires-2 c κs = search needs
 
+slice-aggregate-put-text-3 : tie.Need-slice-aggregate-put-text-3
+slice-aggregate-put-text-3 c = search needs
+
+put-text-requires-3 : tie.Need-put-text-requires-3
+put-text-requires-3 c κs = search needs
+
 put-words-requires : tie.Need-put-words-requires
 put-words-requires c κs = search needs
 
@@ -37,7 +43,16 @@ same-length-3 : tie.Need-same-length-3
 same-length-3 c = search needs
 
 returns-3 : tie.Need-returns-3
-returns-3 c = let r = c .before .before .before .before .match .rest in rw (ne-eqb _ _ (r .0 .1), ne-eqb _ _ (r .1)) (c .before .before .put-words .ensures)
+unfolding ascii
+returns-3 c = rw (c .before .before .before .before .before .match .keys3) (c .before .before .put-text3 .ensures)
+
+same-length-4 : tie.Need-same-length-4
+same-length-4 c = search needs
+
+returns-4 : tie.Need-returns-4
+returns-4 c =
+    let r = c .before .before .before .before .match .rest in
+    rw (ne-eqb _ _ (r .0 .0 .1), ne-eqb _ _ (r .0 .1), ne-eqb _ _ (r .1)) (c .before .before .put-words .ensures)
 
 pub put-why-spec : {M : Type 1} → statement M
 put-why-spec =
@@ -47,10 +62,14 @@ put-why-spec =
     put-text-requires
     slice-aggregate-put-text-2
     put-text-requires-2
+    slice-aggregate-put-text-3
+    put-text-requires-3
     put-words-requires
     same-length
     returns
     same-length-2
     returns-2
     same-length-3
-    returns-3)
+    returns-3
+    same-length-4
+    returns-4)

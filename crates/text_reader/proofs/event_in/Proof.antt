@@ -8,11 +8,14 @@ use Rattle.text_reader.proofs.event_in.Tie as tie
 find-requires : tie.Need-find-requires
 find-requires c κs = search needs
 
-slice-aggregate-hexadecimal-in : tie.Need-slice-aggregate-hexadecimal-in
-slice-aggregate-hexadecimal-in c = sym (length-take-le _ _ (c .before .find .ensures .1))
+slice-aggregate-first : tie.Need-slice-aggregate-first
+slice-aggregate-first c = sym (length-take-le _ _ (c .before .find .ensures .1))
 
 hexadecimal-in-requires : tie.Need-hexadecimal-in-requires
 hexadecimal-in-requires c κs = search needs
+
+size-in-requires : tie.Need-size-in-requires
+size-in-requires c κs = search needs
 
 past-requires : tie.Need-past-requires
 past-requires c κs = search needs
@@ -33,17 +36,19 @@ returns : tie.Need-returns
 returns c =
     let second = c .before .before in
     let next = second .before .before in
-    let first = next .before in
+    let size = next .before in
+    let first = size .before in
     let found = first .before .before in
-    event-there (found .before .before .args .said .now) (found .find .ensures .0) (next .past .ensures) (first .hexadecimal-in .ensures) (second .hexadecimal-in2 .ensures)
+    event-there (found .before .before .args .said .now) (found .find .ensures .0) (next .past .ensures) (first .hexadecimal-in .ensures) (size .size-in .ensures) (second .hexadecimal-in2 .ensures)
 
 pub event-in-spec : {M : Type 1} → statement M
 event-in-spec =
     tie.close
     (tie.spec
     find-requires
-    slice-aggregate-hexadecimal-in
+    slice-aggregate-first
     hexadecimal-in-requires
+    size-in-requires
     past-requires
     sub-hexadecimal-in
     part-hexadecimal-in-start

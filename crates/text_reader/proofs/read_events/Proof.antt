@@ -8,7 +8,7 @@ use Rattle.record.specs.Record.{mostEvents}
 use Rattle.text_lines.specs.Lines.{linesIn}
 use Rattle.text_lines.specs.Rows.{Row, rowsFrom}
 use Rattle.text_reader.specs.Reading.{headIn, valueIn, numbersOf, textSize, eventsFault}
-use Rattle.text_reader.proofs.Turns.{rows-turn, count-turn, stored-turn, rows-end, fault-many, fault-event, fault-turn, fault-none, head-is, value-is}
+use Rattle.text_reader.proofs.Turns.{rows-turn, count-turn, stored-turn, rows-end, fault-many, fault-event, fault-short, fault-turn, fault-none, head-is, value-is}
 use borrow.Author.Needs.{needs}
 use Rattle.text_reader.proofs.read_events.Statement.{statement}
 use Rattle.text_reader.proofs.read_events.Tie as tie
@@ -79,18 +79,20 @@ add-n c = search needs
 
 loop-less : tie.Need-loop-less Inv-loop μ-loop
 loop-less c =
-    let row = c .before .before .before .before .before .before .before in
-    omega (arith, row .next-row .ensures .1 .1 .1 (not-false (row .next-row .result .found) (c .before .before .before .before .before .if1 .left)) .0)
+    let test = c .before .before .before .before .before .before .before in
+    let row = test .before .before in
+    omega (arith, row .next-row .ensures .1 .1 .1 (not-false (row .next-row .result .found) (test .if1 .left)) .0)
 
 -- There is a place for one more.
-room-there : (c : tie.Else3 Inv-loop μ-loop)
-    → let at-loop = c .before .before .before .before .before .before .before .before in
+room-there : (c : tie.Else4 Inv-loop μ-loop)
+    → let at-loop = c .before .before .before .before .before .before .before .before .before .before in
     (at-loop .loop .n < length (at-loop .loop .heads)) × (at-loop .loop .n < length (at-loop .loop .values)) × (at-loop .loop .n < length (at-loop .loop .numbers))
 room-there c = (search needs, search needs, search needs)
 
 loop-again : tie.Need-loop-again Inv-loop μ-loop
 loop-again c =
-    let event = c .before .before in
+    let ok = c .before .before in
+    let event = ok .before .before in
     let room = event .before .before in
     let test = room .before in
     let row = test .before .before in
@@ -103,7 +105,7 @@ loop-again c =
     let on = row .next-row .ensures .1 .1 .1 (not-false (row .next-row .result .found) (test .if1 .left)) in
     let h = room .if2 .left in
     let ev = event .event-in .ensures in
-    let good = c .if3 .left in
+    let good = ok .if3 .left in
     let place = room-there c in (
       row .next-row .ensures .1 .1 .0 .2,
       omega (arith, on .1),
@@ -111,7 +113,7 @@ loop-again c =
       omega arith,
       count-turn rows n _ (inv .5) q,
       rows-turn rows n _ (inv .5) q,
-      fault-turn n _ q h ev good (inv .6),
+      fault-turn n _ q h ev good (c .if4 .left) (inv .6),
       stored-turn rows n _ (inv .5) q headIn _ _ (head-is n _ q h ev good) (place .0) (inv .7),
       stored-turn rows n _ (inv .5) q valueIn _ _ (value-is n _ q h ev good) (place .1) (inv .8),
       stored-turn rows n _ (inv .5) q (λ (r : Row). r .number) _ _ refl (place .2) (inv .9),
@@ -175,6 +177,26 @@ returns-3 c =
     let q = row .next-row .ensures .0 (not-false (row .next-row .result .found) (test .if1 .left)) in
     (fault-event _ _ q (room .if2 .left) (event .event-in .ensures) (c .if3 .taken) (inv .6), (inv .3, ((λ z. absurd (omega arith)), (inv .7, (inv .8, inv .9)))))
 
+same-length-10 : tie.Need-same-length-10 Inv-loop μ-loop
+same-length-10 c = search needs
+
+same-length-11 : tie.Need-same-length-11 Inv-loop μ-loop
+same-length-11 c = search needs
+
+same-length-12 : tie.Need-same-length-12 Inv-loop μ-loop
+same-length-12 c = search needs
+
+returns-4 : tie.Need-returns-4 Inv-loop μ-loop
+returns-4 c =
+    let ok = c .before .before in
+    let event = ok .before .before in
+    let room = event .before .before in
+    let test = room .before in
+    let row = test .before .before in
+    let inv = row .before .loop .inv in
+    let q = row .next-row .ensures .0 (not-false (row .next-row .result .found) (test .if1 .left)) in
+    (fault-short _ _ q (room .if2 .left) (event .event-in .ensures) (ok .if3 .left) (c .if4 .taken) (inv .6), (inv .3, ((λ z. absurd (omega arith)), (inv .7, (inv .8, inv .9)))))
+
 pub read-events-spec : {M : Type 1} → statement M
 read-events-spec =
     tie.close
@@ -208,4 +230,8 @@ read-events-spec =
     same-length-7
     same-length-8
     same-length-9
-    returns-3)
+    returns-3
+    same-length-10
+    same-length-11
+    same-length-12
+    returns-4)
