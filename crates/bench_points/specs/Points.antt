@@ -10,7 +10,7 @@ use mathlib.Core.List.{List, [], _∷_, _++_}
 use lib.ListN.{take as first}
 use lib.IntN.{ℤ, pos, negsuc}
 use Rattle.event.specs.Kinds as kind
-use Rattle.event.specs.Event.{kindOf, addressOf, noKind}
+use Rattle.event.specs.Event.{kindOf, addressOf, headOf, noKind}
 use Rattle.event.specs.Listing.{listingSources, listingHeads, listingValues}
 use Rattle.pic_source.specs.declared.Rank.{Rank}
 use Rattle.pic_source.specs.Ranks.{rank, field}
@@ -50,7 +50,7 @@ pub record Row : Type 0 where
 
 -- An event of this kind, address and value, accepted. "Answers not named are 0."
 abbrev pub event : ℕ → ℕ → ℕ → Row
-event k address value = record { head = k * 65536 + address; value = value; answer = 0; refusal = 0 }
+event k address value = record { head = headOf k address; value = value; answer = 0; refusal = 0 }
 
 -- The same event with another answer.
 infix 80 _answers_
@@ -817,7 +817,7 @@ pub record Points : Type 0 where
       ∷ []
   -- Fewer than 8 bytes; and an event of no kind, where the big reader's number and place are given.
   pub compact-1 : compactVerdict (0 ∷ 0 ∷ 0 ∷ 0 ∷ 64 ∷ 0 ∷ 0 ∷ []) ≡ verdict 1 0
-  pub compact-6 : compactVerdict (recordOf 63 (0x50000 ∷ noKind * 65536 ∷ []) (0 ∷ 0 ∷ [])) ≡ verdict 6 1
+  pub compact-6 : compactVerdict (recordOf 63 (0x50000 ∷ headOf noKind 0 ∷ []) (0 ∷ 0 ∷ [])) ≡ verdict 6 1
   -- "A record that both accept prints the same lines on both."
   pub compact-listing : compactPrintOf (recordOf listingSources listingHeads listingValues) ≡ ascii listing-text
   pub compact-print-22 : compactPrintOf (sizes 0 64) ≡ ascii "refused 22 at 0\n"
@@ -942,10 +942,10 @@ pub record Points : Type 0 where
   -- "27 when the writer is given kind 7, after question 6 at that event", with the place of the first such event;
   pub retired-27 : writing (0x50000 ∷ 0x70000 ∷ 0x70000 ∷ []) (0 ∷ 0 ∷ 0 ∷ []) ≡ verdict 27 1
   -- before question 7 at that event, whatever its address and value, and before all questions of the events after it,
-  pub retired-before-7 : writing (0x7FFFF ∷ noKind * 65536 ∷ []) (1 ∷ 0 ∷ []) ≡ verdict 27 0
+  pub retired-before-7 : writing (0x7FFFF ∷ headOf noKind 0 ∷ []) (1 ∷ 0 ∷ []) ≡ verdict 27 0
   -- after those of the events before it, and after questions 2 to 5.
   pub retired-after-7 : writing (0x50001 ∷ 0x70000 ∷ []) (0 ∷ 0 ∷ []) ≡ verdict 7 0
-  pub retired-after-6 : writing (noKind * 65536 ∷ 0x70000 ∷ []) (0 ∷ 0 ∷ []) ≡ verdict 6 0
+  pub retired-after-6 : writing (headOf noKind 0 ∷ 0x70000 ∷ []) (0 ∷ 0 ∷ []) ≡ verdict 6 0
   pub retired-after-5 : writeVerdict 4 (0x70000 ∷ []) (0 ∷ []) 15 ≡ verdict 5 0
   -- The kinds beside it, look and commit, and a 7 elsewhere are written as before.
   pub retired-others : writing (0x60000 ∷ 0x80000 ∷ 0xC0000 ∷ 0xD0007 ∷ 0x00007 ∷ []) (0 ∷ 0 ∷ 0 ∷ 0 ∷ 7 ∷ []) ≡ noRefusal

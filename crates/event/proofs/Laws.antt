@@ -8,7 +8,7 @@ use lib.ListN.{length}
 use lib.Dec.{lit≤, eqb}
 use borrow.Author.Tests.{lt-ltb, le-ltb, ltb-true, ltb-false}
 use Rattle.event.specs.Kinds as kind
-use Rattle.event.specs.Event.{uses, kinds, kindOf, addressOf, isKind, rowOf, unusedAreZero, shapeOf, ErrorShape, CommitShape, LookShape, ChainShape}
+use Rattle.event.specs.Event.{uses, kinds, kindOf, addressOf, headOf, isKind, rowOf, unusedAreZero, shapeOf, ErrorShape, CommitShape, LookShape, ChainShape}
 
 -- A kind is printed in at most two digits.
 pub kinds-two-digits : length kinds ≤ 100
@@ -62,3 +62,10 @@ look-shape = of-row kind.look false false refl refl
 
 pub chain-shape : ChainShape
 chain-shape = of-row kind.chain false false refl refl
+
+-- The kind and the address of a head that is made of them.
+pub kind-of : (k a : ℕ) → a < 65536 → kindOf (headOf k a) ≡ k
+kind-of k a h = omega (arith, h)
+
+pub address-of : (k a : ℕ) → a < 65536 → addressOf (headOf k a) ≡ a
+address-of k a h = omega (arith, h)

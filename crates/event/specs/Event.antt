@@ -1,5 +1,5 @@
 -- Document 01, "Events and registers": the head and the value of an event; questions 6 and 7.
-use Prim.Native.Nat.{ℕ, _/_, _%_}
+use Prim.Native.Nat.{ℕ, _+_, _*_, _/_, _%_}
 use mathlib.Core.Path.{_≡_}
 use mathlib.Core.Bool.{Bool, true, false, cond, _&&_, _||_}
 use mathlib.Core.List.{List, [], _∷_}
@@ -15,6 +15,10 @@ kindOf head = head / 65536
 -- Address = head mod 65,536.
 abbrev pub addressOf : ℕ → ℕ
 addressOf head = head % 65536
+
+-- The head of a kind and an address.
+abbrev pub headOf : ℕ → ℕ → ℕ
+headOf k address = k * 65536 + address
 
 -- Whether a kind uses the address, and whether it uses the value.
 abbrev pub uses : Bool → Bool → Uses

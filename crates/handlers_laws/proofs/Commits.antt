@@ -6,8 +6,9 @@ use native.Mathlib.Omega.{arith}
 use lib.Seq.{getD-set-same}
 use lib.Dec.{eqb}
 use borrow.Author.Tests.{ltb-true, eq-eqb, ne-eqb}
-use Rattle.event.specs.Event.{kindOf, addressOf, UsesNeither}
-use Rattle.event.proofs.Laws.{chain-shape, look-shape, commit-shape}
+use Rattle.event.specs.Kinds as kind
+use Rattle.event.specs.Event.{kindOf, addressOf, headOf, UsesNeither}
+use Rattle.event.proofs.Laws.{chain-shape, look-shape, commit-shape, kind-of, address-of}
 use Rattle.pic_source.specs.Ranks.{rank}
 use Rattle.pic_laws.proofs.Sources.{count-most}
 use Rattle.handlers_stack.specs.declared.Handler.{Handler}
@@ -17,7 +18,7 @@ use Rattle.handlers.specs.declared.Outcome.{Outcome}
 use Rattle.handlers.specs.Machines.{uppermost, soundOf}
 use Rattle.handlers.specs.Service.{accepted, ask, lookAt, captured, chainEvent, lookEvent, eventOf, soundStepOf}
 use Rattle.handlers.specs.Calls.{soundFirst, chainOf, lookOf, commitOf, stepOf}
-use Rattle.handlers_laws.specs.Commits.{firstNo, LookQuestions, CommitQuestions, LooksAlone, Tells, LookTells, CommitsChain, CommitAnswers, headOf, commitAfter, ChainIsLookThenCommit}
+use Rattle.handlers_laws.specs.Commits.{firstNo, LookQuestions, CommitQuestions, LooksAlone, Tells, LookTells, CommitsChain, CommitAnswers, commitAfter, ChainIsLookThenCommit}
 use Rattle.handlers_laws.proofs.Cases.{commit-served, of-kind}
 use Rattle.handlers_laws.proofs.Facts.{facts, served-facts}
 use Rattle.handlers_service.specs.Fields.{withSource}
@@ -152,13 +153,6 @@ commit-answers m head value k h n = go (eqb value 0) refl
         let q : stepOf m head value .refusal ≡ 7 = commit-questions m head value (s .0) k ∙ rw z in
         omega (arith, q, h)
 
--- The kind and the address of a head that is made of them.
-kind-of : (k a : ℕ) → a < 65536 → kindOf (headOf k a) ≡ k
-kind-of k a h = omega (arith, h)
-
-address-of : (k a : ℕ) → a < 65536 → addressOf (headOf k a) ≡ a
-address-of k a h = omega (arith, h)
-
 -- A commit of the source that a chain would serve.
 commit-next : (m : Machine) → Asked m → serves m ≡ true → (lookAt m .winner .source ≡ 0 → ⊥) → commitOf m (lookAt m .winner .source) ≡ served m
 commit-next m a f n =
@@ -178,7 +172,7 @@ followed-commits m a = go (serves m) refl
         let s = lookAt m .winner .source in
         let n : s ≡ 0 → ⊥ = λ z. omega (arith, z, k .winner .eligible .least) in
         let b : s < 65536 = omega (arith, k .winner .eligible .most, count-most (m .controller) (c .controller)) in
-        rw (ne-eqb s 0 n) (sym (step-commit m (headOf 13 s) 0 (kind-of 13 s b) refl ∙ rw (address-of 13 s b) (commit-next m a f n)))
+        rw (ne-eqb s 0 n) (sym (step-commit m (headOf kind.commit s) 0 (kind-of kind.commit s b) refl ∙ rw (address-of kind.commit s b) (commit-next m a f n)))
 
 chain-commits : (m : Machine) → soundOf m ≡ true → chainEvent m ≡ commitAfter (lookEvent m)
 chain-commits m e = rw (chain-event m, look-event m) (go (hasHandler m) refl (eqb (m .service .mask) 0) refl)

@@ -11,7 +11,6 @@ use Rattle.pic.specs.declared.Controller.{Controller}
 use Rattle.pic.specs.Calls.{currentRank, setCurrent}
 use Rattle.handlers_stack.specs.declared.Handler.{Handler}
 use Rattle.handlers_questions.specs.Questions as questions
-use Rattle.handlers_service.specs.declared.Service.{Service}
 use Rattle.handlers_service.specs.declared.Outcome as handler
 use Rattle.handlers_service.specs.Fields as fields
 use Rattle.handlers_service.specs.Sound as sound

@@ -5,7 +5,7 @@ use mathlib.Core.Path.{_≡_}
 use mathlib.Core.Bool.{Bool, true, cond, _&&_}
 use lib.Dec.{eqb}
 use Rattle.event.specs.Kinds as kind
-use Rattle.event.specs.Event.{kindOf, addressOf}
+use Rattle.event.specs.Event.{kindOf, addressOf, headOf}
 use Rattle.pic.specs.Sources.{thresholdOf, HasWinner}
 use Rattle.pic.specs.Calls.{sourceCount}
 use Rattle.handlers_questions.specs.Questions.{mayCommit}
@@ -59,10 +59,6 @@ CommitsChain = (m : Machine) (s : ℕ) → commitOf m s .refusal ≡ 0 → Commi
 -- An event of kind 13 that is accepted never answers 0.
 abbrev pub CommitAnswers : Type 0
 CommitAnswers = (m : Machine) (head value : ℕ) → kindOf head ≡ kind.commit → stepOf m head value .refusal ≡ 0 → stepOf m head value .answer ≡ 0 → ⊥
-
--- An event of this kind and address.
-abbrev pub headOf : ℕ → ℕ → ℕ
-headOf k address = k * 65536 + address
 
 -- "A look and then a commit of a non-zero answer", as events with what the look was given: the look's refusal; where it answers 0, a capture and the answer 0; else what a
 -- commit of its answer does and answers on the machine that the look handed back.

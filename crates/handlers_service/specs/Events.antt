@@ -1,7 +1,7 @@
 -- Document 01, "Handler service", and the questions 15 to 21; document 02, No. 7: what each event does with mask and stack, and what it answers. The controller is
 -- known by a look at its sources and by its current rank. The rules are total: on a service that is not sound they say what the code does.
 use Prim.Native.Nat.{ℕ, _+_, _-_, _%_, _^_}
-use mathlib.Core.Bool.{Bool, cond, not, _&&_, _||_}
+use mathlib.Core.Bool.{Bool, cond, _&&_, _||_}
 use lib.ListN.{set}
 use lib.Dec.{leb, ltb, eqb}
 use lib.IntN.{pos}

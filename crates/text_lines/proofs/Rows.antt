@@ -8,10 +8,10 @@ use mathlib.Core.List.{List, [], _∷_}
 use borrow.Author.Tests.{lt-ltb, le-ltb, ltb-true, ltb-false, eq-eqb, ne-eqb, not-true, not-false}
 use lib.Dec.{eqb, ltb}
 use lib.ListN.{length, getD, take, drop, length-drop, drop-of-length-le}
-use lib.Seq.{drop-cons, take-take, take-all, take-length, length-take-le}
-use Rattle.text_lines.specs.Lines.{lineFeed, before, after, linesIn}
-use Rattle.text_lines.specs.Rows.{carriageReturn, lastOf, withoutReturn, commentSign, saidIn, isBlank, withoutLead, keptOf, trimmed, saysAny, Row, rowsFrom}
-use Rattle.text_lines.proofs.Marks.{up-to, rest-of, lines-first}
+use lib.Seq.{drop-cons, take-take, take-length, length-take-le}
+use Rattle.text_lines.specs.Lines.{before}
+use Rattle.text_lines.specs.Rows.{carriageReturn, lastOf, withoutReturn, commentSign, saidIn, isBlank, withoutLead, keptOf, trimmed}
+use Rattle.text_lines.proofs.Marks.{up-to, rest-of}
 
 -- The blanks at the start: a turn of the loop over them, and its two ends.
 module _ (text : List ℕ) (i : ℕ) where

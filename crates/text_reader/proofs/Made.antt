@@ -4,13 +4,13 @@ use mathlib.Core.Bool.{Bool, true, false, cond, not}
 use Prim.Native.Nat.{ℕ, suc, _+_, _≤_, _<_}
 use native.Mathlib.Omega.{arith}
 use mathlib.Core.List.{List, [], _∷_, map}
-use borrow.Author.Tests.{le-leb, lt-leb, le-ltb, lt-ltb, eq-eqb, ne-eqb, ltb-true, ltb-false, not-true, not-false}
+use borrow.Author.Tests.{le-leb, lt-leb, eq-eqb, ne-eqb, ltb-true, ltb-false, not-true, not-false}
 use lib.Dec.{ltb}
 use lib.ListN.{length, getD, take, drop}
 use lib.Seq.{take-length, getD-take, getD-drop}
 use Rattle.record.specs.declared.WriteAnswer.{WriteAnswer}
 use Rattle.record.specs.declared.WriteAnswer.the-variants as writing
-use Rattle.record.specs.Record.{recordSize, mostEvents}
+use Rattle.record.specs.Record.{recordSize}
 use Rattle.record.specs.Questions.{writeVerdict}
 use Rattle.record.specs.Answers.{Answer, doneWith, refusedAt, writeNumbers, writeAnswer, writtenBytes}
 use Rattle.record.proofs.Answers.{write-done, write-not}

@@ -1,12 +1,11 @@
 -- A text of plain lines, without blanks, comments and carriage returns: its numbers, what its lines say, its rows, and that it has no fault.
-use mathlib.Core.Path.{_≡_, refl, sym, ap, _∙_}
-use mathlib.Core.Bool.{Bool, true, false, cond, _||_}
+use mathlib.Core.Path.{_≡_, refl, ap, _∙_}
+use mathlib.Core.Bool.{true, false}
 use Prim.Native.Nat.{ℕ, zero, suc, _-_, _≤_, _<_}
 use native.Mathlib.Omega.{arith}
 use mathlib.Core.List.{List, [], _∷_}
-use borrow.Author.Tests.{lt-ltb, le-leb, lt-leb, ne-eqb}
-use lib.Dec.{eqb, lit<}
-use lib.ListN.{length, getD, take}
+use borrow.Author.Tests.{lt-ltb, lt-leb, ne-eqb}
+use lib.ListN.{length, getD}
 use lib.Seq.{take-length}
 use Rattle.digits.proofs.Meaning.{digit-of-glyph}
 use Rattle.digits.proofs.Signs.{Signs, none, more}

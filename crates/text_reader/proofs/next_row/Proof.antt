@@ -1,4 +1,4 @@
-use Prim.Native.Nat.{_≤_, _-_, _+_, suc}
+use Prim.Native.Nat.{_≤_, _-_, _+_}
 use mathlib.Core.Path.{_≡_, refl, sym}
 use mathlib.Core.Bool.{true≢false}
 use native.Mathlib.Omega.{arith}
