@@ -10,7 +10,7 @@ use buffers::lesser;
 use handlers::{Checked, Machine};
 
 // The end machine, how many events were played, and power-on's refusal.
-#[derive(Drop)]
+#[derive(Clone, Copy)]
 pub struct Played {
     pub machine: Machine,
     pub events: usize,

@@ -7,14 +7,14 @@ use counters_errors::ErrorCounters;
 use counters_timers::Timers;
 
 // The counters of a machine.
-#[derive(Drop)]
+#[derive(Clone, Copy)]
 pub struct Counters {
     pub timers: Timers,
     pub errors: ErrorCounters,
 }
 
 // What a clock or an error hands back. A refused one answers 0 and hands back the counters as they were.
-#[derive(Drop)]
+#[derive(Clone, Copy)]
 pub struct Counted {
     pub counters: Counters,
     pub answer: u32,
@@ -22,7 +22,7 @@ pub struct Counted {
 }
 
 // A CSR of the counters, with the number of its timer or of its error counter.
-#[derive(Drop)]
+#[derive(Clone, Copy)]
 pub enum Csr {
     Mitcnt(u8),
     Mitb(u8),

@@ -4,11 +4,11 @@ mod one;
 mod three;
 
 // An error counter, as its register holds it: bits 31:27 the threshold, 26:0 the count.
-#[derive(Drop)]
+#[derive(Clone, Copy)]
 pub struct ErrorCounter(pub u32);
 
 // The error counters 0, 1 and 2: of the I-cache, of the ICCM and of the DCCM.
-#[derive(Drop)]
+#[derive(Clone, Copy)]
 pub struct ErrorCounters {
     pub micect: ErrorCounter,
     pub miccmect: ErrorCounter,
@@ -16,7 +16,7 @@ pub struct ErrorCounters {
 }
 
 // What an error hands back. The answer is the bit that the threshold selects; a refused error answers 0 and hands back the counters as they were.
-#[derive(Drop)]
+#[derive(Clone, Copy)]
 pub struct ErrorOutcome {
     pub counters: ErrorCounters,
     pub answer: u32,

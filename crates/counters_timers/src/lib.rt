@@ -4,7 +4,7 @@ mod both;
 mod one;
 
 // An internal timer: its counter, its bound and its control (bit 0 enable, bit 1 halt_en, bit 2 pause_en).
-#[derive(Drop)]
+#[derive(Clone, Copy)]
 pub struct Timer {
     pub count: u32,
     pub bound: u32,
@@ -12,14 +12,14 @@ pub struct Timer {
 }
 
 // Timers 0 and 1.
-#[derive(Drop)]
+#[derive(Clone, Copy)]
 pub struct Timers {
     pub timer0: Timer,
     pub timer1: Timer,
 }
 
 // What a clock hands back. The answer has bit 0 for timer 0 and bit 1 for timer 1.
-#[derive(Drop)]
+#[derive(Clone, Copy)]
 pub struct Clocked {
     pub timers: Timers,
     pub answer: u32,

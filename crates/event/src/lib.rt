@@ -6,7 +6,7 @@ ghost use Rattle.std.specs.Prelude.{◌≡◌};
 ghost use Rattle.event.specs.Event.{kind_of, address_of, shape_of};
 
 // Whether a kind uses the address, and whether it uses the value.
-#[derive(Drop)]
+#[derive(Clone, Copy)]
 struct Uses(bool, bool);
 
 // One row for each kind, in the order of their numbers.

@@ -11,7 +11,7 @@ use handlers_service::Service;
 use pic::Controller;
 
 // The machine. The controller stands last: an event of the player then costs a copy of it less.
-#[derive(Drop)]
+#[derive(Clone, Copy)]
 pub struct Machine {
     pub service: Service,
     pub counters: Counters,
@@ -19,7 +19,7 @@ pub struct Machine {
 }
 
 // What an event hands back. A refused one answers 0 and hands back the machine as it was.
-#[derive(Drop)]
+#[derive(Clone, Copy)]
 pub struct Outcome {
     pub machine: Machine,
     pub answer: u32,
@@ -27,20 +27,20 @@ pub struct Outcome {
 }
 
 // What the margin query answers.
-#[derive(Drop)]
+#[derive(Clone, Copy)]
 pub struct Margin {
     pub margin: i32,
     pub refusal: u8,
 }
 
 // A machine that was asked whether it is sound. Its field is private, so that only `start` and `enter` make one.
-#[derive(Drop)]
+#[derive(Clone, Copy)]
 pub struct Checked {
     machine: Machine,
 }
 
 // What power-on, entering a machine and an event hand back.
-#[derive(Drop)]
+#[derive(Clone, Copy)]
 pub struct CheckedOutcome {
     pub checked: Checked,
     pub answer: u32,

@@ -7,7 +7,7 @@ mod sound;
 use handlers_stack::Handler;
 
 // The mask, 0 interrupts off, 1 on, and the handlers. Places of the stack from depth up mean nothing.
-#[derive(Drop)]
+#[derive(Clone, Copy)]
 pub struct Service {
     pub mask: u8,
     pub depth: u8,
@@ -15,7 +15,7 @@ pub struct Service {
 }
 
 // What an event hands back. A refused one answers 0 and hands back the service as it was.
-#[derive(Drop)]
+#[derive(Clone, Copy)]
 pub struct Outcome {
     pub service: Service,
     pub answer: u32,

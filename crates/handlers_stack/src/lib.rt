@@ -6,7 +6,7 @@ ghost use Rattle.handlers_stack.specs.Stacks.{blank, handler_sound, handler_at, 
 use pic_source::Rank;
 
 // A handler on the stack: its source, its rank, the current rank that its return puts back, and 1 once it was opened.
-#[derive(Drop)]
+#[derive(Clone, Copy)]
 pub struct Handler {
     pub source: u8,
     pub rank: Rank,

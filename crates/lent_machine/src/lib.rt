@@ -13,7 +13,7 @@ use claims::Played;
 use handlers::Machine;
 
 // What an event answers, and what it is refused with, 0 if it is accepted.
-#[derive(Drop)]
+#[derive(Clone, Copy)]
 pub struct Answered {
     pub answer: u32,
     pub refusal: u8,

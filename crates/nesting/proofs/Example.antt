@@ -48,11 +48,14 @@ nests-swap l c (suc d) h b p r s n =
     let e : suc d - 1 ≡ d = omega arith in
     let r' : h.rank ≡ (get_or l d blank).rank = rw e at r in
     let s' : h.saved ≡ (get_or l d blank).saved = rw e at s in
-    rw (e, get_or-set_same l d h blank (omega arith)) (
+    let P : ℕ → Type 0 = λ j. Nests (set l j h) c (suc d) in
+    subst P (sym e) (
+    rw (get_or-set_same l d h blank (omega arith)) (
       n.0 ∙ sym r',
       omega (arith, n.1),
       omega (arith, n.2),
       subst (λ k. Nests (set l d h) k d) (sym s') (nests-outside l (get_or l d blank).saved d d h (omega arith) n.3),
+    )
     )
 
 nests-pop : (l : List Slot) (c d : ℕ) → 0 < d → Nests l c d → Nests l (get_or l (d - 1) blank).saved (d - 1)

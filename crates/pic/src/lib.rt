@@ -9,7 +9,7 @@ use pic_comparator::Winner;
 use pic_source::Field;
 
 // What the controller holds beside its sources.
-#[derive(Drop)]
+#[derive(Clone, Copy)]
 pub struct Scalars {
     pub priord: u8,
     pub base: u32,
@@ -22,7 +22,7 @@ pub struct Scalars {
 
 // The controller. The arrays are indexed by source number; places 0 and above the number of sources mean nothing. It holds fields as they were written; a rank is
 // worked out from its field and priord where it is used.
-#[derive(Drop)]
+#[derive(Clone, Copy)]
 pub struct Controller {
     pub sources: u8,
     // the field of meipl
@@ -37,7 +37,7 @@ pub struct Controller {
 }
 
 // What an event hands back. A refused one answers 0 and hands back the controller as it was.
-#[derive(Drop)]
+#[derive(Clone, Copy)]
 pub struct Outcome {
     pub controller: Controller,
     pub answer: u32,
@@ -45,7 +45,7 @@ pub struct Outcome {
 }
 
 // One look at the sources: the winner, whether it is above the threshold, the margin, and meihap once it is captured.
-#[derive(Drop)]
+#[derive(Clone, Copy)]
 pub struct Look {
     pub winner: Winner,
     pub above: bool,

@@ -8,7 +8,7 @@ ghost use Rattle.pic_comparator.specs.Comparator.{better_of};
 use pic_source::Rank;
 
 // A source number and its rank; 0 and rank 0 where there is none.
-#[derive(Drop)]
+#[derive(Clone, Copy)]
 pub struct Winner {
     pub source: u8,
     pub rank: Rank,

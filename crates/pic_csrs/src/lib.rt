@@ -9,7 +9,7 @@ use pic::calls::meihap;
 use pic::{Controller, Outcome, Scalars};
 use pic_source::Field;
 
-#[derive(Drop)]
+#[derive(Clone, Copy)]
 pub enum Csr {
     Meivt,
     Meipt,

@@ -18,7 +18,7 @@ use crate::values::{
 use pic::{Controller, Outcome};
 
 // The registers by source number, or by word for meip.
-#[derive(Drop)]
+#[derive(Clone, Copy)]
 pub enum Register {
     Meipl(u8),
     Meip(u8),

@@ -4,9 +4,9 @@ pub mod ranks;
 pub mod sources;
 
 // A rank, 0..15: how urgent a source is. The highest is served first.
-#[derive(Drop)]
+#[derive(Clone, Copy)]
 pub struct Rank(pub u8);
 
 // What bits 3:0 of a priority register hold.
-#[derive(Drop)]
+#[derive(Clone, Copy)]
 pub struct Field(pub u8);

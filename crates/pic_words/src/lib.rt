@@ -5,7 +5,7 @@ ghost use Rattle.pic_bits.specs.Bits.{bit_of, has_bit};
 ghost use Rattle.pic_words.specs.Words.{bits_put, latches_after, low_of, source_bits, changed, sampled_source, enabled_source, gateway_source, cleared_source, pending_of, ready_of};
 
 // The values of the sources of a word.
-#[derive(Drop)]
+#[derive(Clone, Copy)]
 pub struct Word {
     pub enable: u32,
     pub trigger: u32,

@@ -8,7 +8,7 @@ use record::{MOST_EVENTS, ReadAnswer};
 
 // What playing a record answers: the record's refusal and its place, 0 and 0 if it was accepted; N and n; and of the machine after all events, how many handlers
 // are open, current's rank and the margin. Refused, all but the first two are 0.
-#[derive(Drop)]
+#[derive(Clone, Copy)]
 pub struct Numbers {
     pub refusal: u8,
     pub place: u16,

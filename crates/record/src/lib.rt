@@ -25,7 +25,7 @@ pub const COMPACT_EVENTS: usize = 500;
 pub const COMPACT_SIZE: usize = 8 + 8 * COMPACT_EVENTS;
 
 // What a reader takes at most: N, and events.
-#[derive(Drop)]
+#[derive(Clone, Copy)]
 pub struct Limits {
     pub sources: u32,
     pub events: u32,
@@ -44,21 +44,21 @@ pub const COMPACT: Limits = Limits {
 };
 
 // The question that was answered no and the place; 0 and 0 where none was.
-#[derive(Drop)]
+#[derive(Clone, Copy)]
 pub struct Verdict {
     pub refusal: u8,
     pub place: usize,
 }
 
 // What reading answers.
-#[derive(Drop)]
+#[derive(Clone, Copy)]
 pub enum ReadAnswer {
     Done { events: usize, sources: u32 },
     Refused { refusal: u8, place: usize },
 }
 
 // What writing answers.
-#[derive(Drop)]
+#[derive(Clone, Copy)]
 pub enum WriteAnswer {
     Done { length: usize },
     Refused { refusal: u8, place: usize },

@@ -7,7 +7,7 @@ ghost use Rattle.text_lines.specs.Rows.{without_return, said_in, is_blank, witho
 ghost use Rattle.text_lines.specs.Numbers.{number_in};
 
 // A number in a text; value 0 where there is none.
-#[derive(Drop)]
+#[derive(Clone, Copy)]
 pub struct Number {
     pub ok: bool,
     pub value: u32,

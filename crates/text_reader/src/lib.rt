@@ -26,7 +26,7 @@ pub const SHORT_HEAD: u8 = 5;
 
 // What making a record of a text answers: the record's length; why the text is refused, and its line, from 1 (0 where there are too many bytes); or the refusal of the
 // record's questions, its place, and the line that it is about.
-#[derive(Drop)]
+#[derive(Clone, Copy)]
 pub enum RecordAnswer {
     Done {
         length: usize,
@@ -43,14 +43,14 @@ pub enum RecordAnswer {
 }
 
 // What is wrong with a text, and the line. Nothing is 0 and 0.
-#[derive(Drop)]
+#[derive(Clone, Copy)]
 struct Fault {
     why: u8,
     line: usize,
 }
 
 // The event of a row; ok where it is one, whole where its head has eight digits.
-#[derive(Drop)]
+#[derive(Clone, Copy)]
 struct Event {
     ok: bool,
     whole: bool,
@@ -59,7 +59,7 @@ struct Event {
 }
 
 // A line: whether it says anything, the length of what it says, and the place where the next line begins.
-#[derive(Drop)]
+#[derive(Clone, Copy)]
 struct Line {
     says: bool,
     length: usize,
@@ -67,7 +67,7 @@ struct Line {
 }
 
 // The next row: whether there is one, the number of its line, the places where what it says begins and ends, and where the next line begins.
-#[derive(Drop)]
+#[derive(Clone, Copy)]
 struct Found {
     found: bool,
     number: usize,
@@ -77,14 +77,14 @@ struct Found {
 }
 
 // The first fault of the rows of events, and how many events were read.
-#[derive(Drop)]
+#[derive(Clone, Copy)]
 struct Lines {
     fault: Fault,
     events: usize,
 }
 
 // The first fault of a text; else N, its line, and how many events were read.
-#[derive(Drop)]
+#[derive(Clone, Copy)]
 struct Listing {
     fault: Fault,
     sources: u32,

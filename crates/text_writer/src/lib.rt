@@ -13,7 +13,7 @@ use record::{MOST_EVENTS, ReadAnswer};
 pub const LISTING_SIZE: usize = 4 + 18 * MOST_EVENTS;
 
 // What making a text of a record answers: the text's length; or the reader's refusal.
-#[derive(Drop)]
+#[derive(Clone, Copy)]
 pub enum TextAnswer {
     Done { length: usize },
     Refused { refusal: u8, place: usize },

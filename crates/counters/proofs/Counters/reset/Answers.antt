@@ -1,0 +1,5 @@
+use borrow.Author.Rules.{rules}
+use Rattle.counters.proofs.Counters.reset.Goals as goal
+
+pub returns : goal.returns
+returns c = rw (c.reset-2.ensures, c.reset.ensures)

@@ -1,0 +1,18 @@
+use Rattle.counters_errors.specs.Errors.{with_error}
+use Rattle.counters_errors.proofs.Testing.{none-put}
+use Rattle.counters_errors.proofs.ErrorCounters.with_counter.Goals as goal
+
+pub returns-in-0 : goal.returns-in-0
+unfolding with_error
+returns-in-0 c = rw c.in-0.is
+
+pub returns-in-1 : goal.returns-in-1
+unfolding with_error
+returns-in-1 c = rw c.in-1.is
+
+pub returns-in-2 : goal.returns-in-2
+unfolding with_error
+returns-in-2 c = rw c.in-2.is
+
+pub returns-in_default : goal.returns-in_default
+returns-in_default c = none-put _ _ _ c.in_default.in_default-own.rest.0.0.1 c.in_default.in_default-own.rest.0.1 c.in_default.in_default-own.rest.1

@@ -1,0 +1,5 @@
+use borrow.Author.Rules.{rules}
+use Rattle.counters_timers.proofs.Timer.clock.Goals as goal
+
+pub returns : goal.returns
+returns c = rw c.next_count-n.ensures

@@ -1,0 +1,11 @@
+use borrow.Author.Rules.{rules}
+use Prim.Native.Nat.{◌<◌, ◌-◌}
+use native.Mathlib.Omega.{arith}
+use Rattle.digits.proofs.Digits.{Counted, count-start, count-below, count_turn, count-end}
+use Rattle.digits.proofs.count_digits.Given as goal
+
+abbrev pub invariant-loop-k : goal.invariant-loop-k
+invariant-loop-k l = (1 < l.base) × Counted l.base l.least l.most l.n l.k l.left
+
+abbrev pub decreases-loop-k : goal.decreases-loop-k
+decreases-loop-k l = l.most - l.k

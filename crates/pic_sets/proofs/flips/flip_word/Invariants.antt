@@ -1,0 +1,19 @@
+use mir.Syntax.{w32}
+use mir.Val.{Fits}
+use Prim.Native.Nat.{ℕ, ◌+◌, ◌%◌, ◌^◌, ◌<◌}
+use mathlib.Core.Path.{◌≡◌}
+use native.Mathlib.Omega.{arith}
+use lib.Pow.{pow_pos}
+use Rattle.pic_bits.specs.Bits.{Lowest}
+use Rattle.pic_bits.proofs.Bits.{bit_le, one_shifted}
+use Rattle.pic_bits.proofs.Zeros.{lowest-is}
+use Rattle.pic_sets.specs.Sets.{rank_at}
+use Rattle.pic_sets.proofs.Steps.{Done, begun, turned, ended}
+use borrow.Author.Rules.{rules}
+use Rattle.pic_sets.proofs.flips.flip_word.Given as goal
+
+abbrev pub invariant-loop-left : goal.invariant-loop-left
+invariant-loop-left l = (l.left < 2 ^ 32) × (k : ℕ) × Done l.initial.sets (rank_at l.priord l.field) (l.x % 8) l.changed l.left k l.sets
+
+abbrev pub decreases-loop-left : goal.decreases-loop-left
+decreases-loop-left l = l.left

@@ -1,0 +1,5 @@
+use borrow.Author.Rules.{rules}
+use Rattle.pic_source.proofs.ranks.to_rank.Goals as goal
+
+pub returns : goal.returns
+returns c = rw c.mirrored.ensures

@@ -1,0 +1,5 @@
+use borrow.Author.Rules.{rules}
+use Rattle.pic_source.proofs.sources.waiting.Goals as goal
+
+pub returns : goal.returns
+returns c = rw c.pending.ensures
