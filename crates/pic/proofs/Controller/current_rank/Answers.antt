@@ -1,0 +1,7 @@
+use Rattle.std.proofs.Common.{rules}
+use Rattle.pic.specs.Calls.{current_rank}
+use Rattle.pic.proofs.Controller.current_rank.Goals as goal
+
+pub returns : goal.returns
+unfolding current_rank
+returns c = c.to_rank.ensures

@@ -1,0 +1,6 @@
+use Rattle.text_lines.proofs.Rows.{says_there}
+use borrow.Author.Rules.{rules}
+use Rattle.text_lines.proofs.says_any.Goals as goal
+
+pub returns : goal.returns
+returns c = says_there _ _ c.lead.ensures.text_value
