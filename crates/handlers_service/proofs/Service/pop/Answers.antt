@@ -1,0 +1,5 @@
+use Rattle.std.proofs.Common.{rules}
+use Rattle.handlers_service.proofs.Service.pop.Goals as goal
+
+pub returns : goal.returns
+returns c = rw c.one_less.ensures

@@ -1,0 +1,5 @@
+use borrow.Author.Rules.{rules}
+use Rattle.pic_registers.proofs.values.settle_at.Goals as goal
+
+pub returns : goal.returns
+returns c = rw c.latch_after.ensures
