@@ -73,8 +73,8 @@ top-opened m f h j e = go f.masked
 -- Take.
 module _ (m : Machine) (r : sound_of m ≡ true) (h : m.service.mask ≡ 0 → ⊥) (g : lt_z (pos 0) (look_at m).margin ≡ true) where
   -- There is a place, so the number of handlers does not wrap.
-  pub one_more : one_more m.service.depth ≡ m.service.depth + 1
-  one_more = omega (arith, room m (facts m r) h g)
+  pub one_more-is : one_more m.service.depth ≡ m.service.depth + 1
+  one_more-is = omega (arith, room m (facts m r) h g)
 
   new-stored : Stored m.service.stack m.service.depth (new_handler m) (source_count m.controller) (m.service.depth + 1)
   new-stored =
@@ -110,7 +110,7 @@ module _ (m : Machine) (r : sound_of m ≡ true) (h : m.service.mask ≡ 0 → �
 
   taken-level : (current_rank m.controller).0 ≡ (level_of (uppermost (taken m))).0
   taken-level =
-      let i : one_more m.service.depth - 1 ≡ m.service.depth = omega (arith, one_more) in
+      let i : one_more m.service.depth - 1 ≡ m.service.depth = omega (arith, one_more-is) in
       let t : uppermost (taken m) ≡ new_handler m = rw i (get_or-set_same m.service.stack m.service.depth (new_handler m) blank has-place) in
       sym (ap (λ (q : Handler). (level_of q).0) t ∙ ap (λ (a : Rank). a.0) (level-unopened (new_handler m) refl))
 
@@ -120,9 +120,9 @@ module _ (m : Machine) (r : sound_of m ≡ true) (h : m.service.mask ≡ 0 → �
       sound (taken m)
       (record {
         places = simp length-set s.places;
-        few = omega (arith, one_more, room m s h g);
+        few = omega (arith, one_more-is, room m s h g);
         bit = omega arith;
-        handlers = λ j l. rw (capture-count m.controller, one_more) (taken_fine j (omega (arith, l, one_more)));
+        handlers = λ j l. rw (capture-count m.controller, one_more-is) (taken_fine j (omega (arith, l, one_more-is)));
         current = inr (ap (λ (a : Rank). a.0) (capture-current m.controller) ∙ taken-level);
         masked = inl refl;
         controller = capture-sound m.controller s.controller;

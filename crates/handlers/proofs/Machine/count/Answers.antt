@@ -1,0 +1,5 @@
+use borrow.Author.Rules.{rules}
+use Rattle.handlers.proofs.Machine.count.Goals as goal
+
+pub returns : goal.returns
+returns c = rw c.with_counters.ensures

@@ -1,0 +1,7 @@
+use Rattle.handlers.specs.Service.{error_event}
+use borrow.Author.Rules.{rules}
+use Rattle.handlers.proofs.Machine.error_event.Goals as goal
+
+pub returns : goal.returns
+unfolding error_event
+returns c = rw (c.count.ensures, c.count_error.ensures)

@@ -1,0 +1,12 @@
+use Rattle.handlers.specs.Calls.{sample_of}
+use Rattle.handlers.proofs.Answers.{unsound, is-sound}
+use borrow.Author.Rules.{rules}
+use Rattle.handlers.proofs.Machine.sample.Goals as goal
+
+pub returns-then-not-is_sound : goal.returns-then-not-is_sound
+unfolding sample_of
+returns-then-not-is_sound c = rw (unsound _ c.is_sound.ensures c.if-not-is_sound.true-raw) c.refuse.ensures
+
+pub returns : goal.returns
+unfolding sample_of
+returns c = rw (is-sound _ c.is_sound.ensures c.if-not-is_sound.false-raw) c.sample_event.ensures
