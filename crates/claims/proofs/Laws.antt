@@ -40,7 +40,7 @@ use Rattle.handlers_laws.proofs.Service.{with_mask, new_handler, taken, serves, 
 use Rattle.handlers.specs.Calls.{step_of}
 use Rattle.handlers_laws.proofs.Facts.{facts, Sound, saved-small, room, served-facts}
 use Rattle.handlers_laws.proofs.Cases.{step-cases}
-use Rattle.handlers_laws.proofs.Kept.{step-sound, power-on-sound, power-on-empty, top-current, one_more}
+use Rattle.handlers_laws.proofs.Kept.{step-sound, power-on-sound, power-on-empty, top-current, one_more-is}
 use Rattle.claims.specs.Nested.{word, answer_of, accepted_class, class_by, seen, Won, eh1, last_of, Demand3}
 
 -- A served winner above the threshold is the one to serve.
@@ -86,7 +86,7 @@ module _ (m : Machine) (r : sound_of m ≡ true) where
       let d = room m s h g in
       record {
         new = seen (new_handler m);
-        pushed = rw (one_more m r h g) (held-push seen m.service.stack m.service.depth (new_handler m) (omega (arith, s.places, d)));
+        pushed = rw (one_more-is m r h g) (held-push seen m.service.stack m.service.depth (new_handler m) (omega (arith, s.places, d)));
         serves = record { names = k.names; ranked = ap (λ (z : Rank). z.0) k.winner.ranked };
         won = won c (look_at m) k o.threshold;
         saved = refl;

@@ -1,0 +1,13 @@
+use Rattle.digits.specs.Ascii.{ascii}
+use Rattle.text_messages.specs.Messages.{why_words}
+use Rattle.digits.proofs.Pieces.{three}
+use borrow.Author.Rules.{rules}
+use Rattle.text_messages.proofs.put_reason.Goals as goal
+
+pub returns : goal.returns
+unfolding ascii
+returns c =
+    let r = three c.args.out.now c.args.at (ascii ": ") (why_words c.args.why) (ascii "\n") c.requires
+    c.put_text-a.ensures.value c.put_text-a.ensures.buffer_after
+    c.put_why-b.ensures.value c.put_why-b.ensures.out_after
+    c.put_text.ensures.value c.put_text.ensures.buffer_after in record { value = r.0; out_after = r.1 }
