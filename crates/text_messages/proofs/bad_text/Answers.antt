@@ -24,9 +24,9 @@ pub returns-then-why : goal.returns-then-why
 returns-then-why c =
     let room : message_size ≤ length c.args.out.now = search rules in
     let bad : is_of_line c.args.why ≡ true = c.if-why.true in
-    let r = rw bad
-    (made c.args.out.now ((at_line c.args.line) ++ (saying (why_words c.args.why))) (bad-line-fits c.args.why c.args.line (length c.args.out.now) room)
-    (two c.args.out.now 0 (at_line c.args.line) (saying (why_words c.args.why)) (c.put_line-a.ensures.value, c.put_line-a.ensures.out_after) (c.put_reason.ensures.value, c.put_reason.ensures.out_after))) in record { value = r.0; out_after = r.1.0; has_first = r.1.1 }
+    let both = made c.args.out.now ((at_line c.args.line) ++ (saying (why_words c.args.why))) (bad-line-fits c.args.why c.args.line (length c.args.out.now) room)
+    (two c.args.out.now 0 (at_line c.args.line) (saying (why_words c.args.why)) (c.put_line-a.ensures.value, c.put_line-a.ensures.out_after) (c.put_reason.ensures.value, c.put_reason.ensures.out_after)) in
+    record { value = rw bad both.0; out_after = rw bad both.1.0; has_first = both.1.1 }
 
 pub returns : goal.returns
 unfolding ascii
@@ -34,4 +34,4 @@ returns c =
     let room : message_size ≤ length c.args.out.now = search rules in
     let fits = too-long-fits (length c.args.out.now) room in
     let long : is_of_line c.args.why ≡ false = c.if-why.false in
-    let r = (made c.args.out.now too_long fits (put c.args.out.now 0 too_long fits c.put_text.ensures.value c.put_text.ensures.buffer_after)) in record { value = rw long r.0; out_after = rw long r.1.0; has_first = rw long r.1.1 }
+    let r = (made c.args.out.now too_long fits (put c.args.out.now 0 too_long fits c.put_text.ensures.value c.put_text.ensures.buffer_after)) in record { value = rw long r.0; out_after = rw long r.1.0; has_first = r.1.1 }

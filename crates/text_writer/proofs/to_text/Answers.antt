@@ -24,19 +24,18 @@ zeros = length-replicate {A = ℕ} most_events 0
 parts : (c : In-Done)
     → let read = c.before.before.before.before in
     Parts board read.args.bytes.now (length none) (length none)
-    c.in-Done.events c.in-Done.sources read.read-got.new.1.0 read.read-got.new.1.1.0
+    c.in-Done.events c.in-Done.sources read.read-got.new.heads read.read-got.new.values
 parts c =
-    let read = c.before.before.before.before in
-    read-parts board _ none none read.read-got.ensures.result_value read.read-got.ensures.heads_after read.read-got.ensures.values_after c.in-Done.is
+    let read = c.read-got in read-parts board _ none none read.ensures.result_value read.ensures.heads_after read.ensures.values_after c.in-Done.is
 
 -- They are within the arrays.
 fits : (c : In-Done)
     → let read = c.read-got in
-    (c.in-Done.events ≤ length read.new.1.0) × (c.in-Done.events ≤ length read.new.1.1.0)
+    (c.in-Done.events ≤ length read.new.heads) × (c.in-Done.events ≤ length read.new.values)
 fits c =
     let read = c.read-got in
     let few = parts-fit (parts c) in
-    (omega (arith, read.auto.1.0, few.0), omega (arith, read.auto.1.1.0, few.0))
+    (omega (arith, read.auto.heads, few.0), omega (arith, read.auto.values, few.0))
 
 pub slice_bounds-heads-end : goal.slice_bounds-heads-end
 slice_bounds-heads-end c = (fits (goal.at.slice_bounds-heads-end c).In-Done).0
@@ -60,9 +59,9 @@ put_listing-length-requires c =
 pub returns-in-Done : goal.returns-in-Done
 returns-in-Done c =
     let put = c.put_listing-length in
-    let made = text-made c.args.bytes.now c.args.text.now (parts (goal.at.returns-in-Done c).In-Done) zeros zeros put.ensures.0 put.ensures.1.0 in
+    let made = text-made c.args.bytes.now c.args.text.now (parts (goal.at.returns-in-Done c).In-Done) zeros zeros put.ensures.value put.ensures.text_after in
     let known = c.shared_slice_known-1 in
-    record { result_value = made.0; text_after = made.1; result_in_bounds = put.ensures.1.1; comes_back = subst (ComesBack c.args.bytes.now) (sym made.2) (comes_back c.args.bytes.now (λ i. (known.given i).fits)) }
+    record { result_value = made.0; text_after = made.1; result_in_bounds = put.ensures.upper_bound; comes_back = subst (ComesBack c.args.bytes.now) (sym made.2) (comes_back c.args.bytes.now (λ i. (known.given i).fits)) }
 
 pub returns-in-Refused : goal.returns-in-Refused
 returns-in-Refused c =
