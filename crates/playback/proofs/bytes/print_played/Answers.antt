@@ -20,13 +20,13 @@ returns-then-out-print_room c =
 pub put_lines-requires : goal.put_lines-requires
 put_lines-requires c =
     let play = c.play-played in
-    let fits = known-fit c.args.sources c.args.heads.now play.new.1.1.1.0 play.new.1.1.1.1.0 play.result.machine c.requires.0 c.requires.2 (λ i. (c.slice_known-4-1.given i).fits) (λ i. (c.slice_known-5-1.given i).fits) in
+    let fits = known-fit c.args.sources c.args.heads.now play.new.answers play.new.refusals play.result.machine c.requires.0 c.requires.2 (λ i. (c.slice_known-4-1.given i).fits) (λ i. (c.slice_known-5-1.given i).fits) in
     (search rules, search rules, omega (arith, fits, c.print_room.ensures, c.if-out-print_room.false))
 
 pub returns : goal.returns
 returns c =
     let play = c.play-played in
-    let all = played-all c.args.sources c.args.heads.now c.args.values.now c.args.answers.now c.args.refusals.now c.requires.1 c.requires.3 c.requires.4 play.ensures.0 play.ensures.1.0 play.ensures.1.1.0 in
+    let all = played-all c.args.sources c.args.heads.now c.args.values.now c.args.answers.now c.args.refusals.now c.requires.1 c.requires.3 c.requires.4 play.ensures.value play.ensures.answers_after play.ensures.refusals_after in
     let room : print_room (length c.args.heads.now) ≤ length c.args.out.now = omega (arith, c.print_room.ensures, c.if-out-print_room.false) in
     let r = with-room (print_room (length c.args.heads.now)) (played_lines c.args.sources c.args.heads.now c.args.values.now) c.args.out.now room
     (filled-as c.args.out.now (played-lines c.args.sources c.args.heads.now c.args.values.now c.args.answers.now c.args.refusals.now all) (c.put_lines.ensures.value, c.put_lines.ensures.out_after)) in record { value = r.0; out_after = r.1 }

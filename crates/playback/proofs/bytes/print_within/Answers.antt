@@ -14,23 +14,19 @@ use Rattle.playback.proofs.bytes.print_within.Goals.{In-Done, In-Refused}
 -- The record that was read.
 done : (c : In-Done)
     → let s = c.before.before.before.before.before.before.before.before.before.before.before.before.before.before.before in
-    let read = c.before.before.before.before.before.before in
-    WasRead s.args.limits s.args.«record».now s.args.limits.events s.args.limits.events read.read_within-got.new.1.1.0 read.read_within-got.new.1.1.1.0 c.in-Done.events c.in-Done.sources
+    WasRead c.args.limits c.args.«record».now c.args.limits.events c.args.limits.events c.read_within-got.new.heads c.read_within-got.new.values c.in-Done.events c.in-Done.sources
 done c =
-    let s = c.before.before.before.before.before.before.before.before.before.before.before.before.before.before.before in
-    let read = c.before.before.before.before.before.before in
-    was_read s.args.limits s.args.«record».now s.args.heads.now s.args.values.now s.args.limits.events s.args.limits.events
-    (own-arrays s.args.limits s.args.«record».now s.requires.0 s.requires.1)
-    read.read_within-got.auto.1.1.0 read.read_within-got.auto.1.1.1.0 read.read_within-got.ensures.result_value read.read_within-got.ensures.heads_after read.read_within-got.ensures.values_after c.in-Done.is
+    was_read c.args.limits c.args.«record».now c.args.heads.now c.args.values.now c.args.limits.events c.args.limits.events
+    (own-arrays c.args.limits c.args.«record».now c.requires.0 c.requires.1)
+    c.read_within-got.auto.heads c.read_within-got.auto.values c.read_within-got.ensures.result_value c.read_within-got.ensures.heads_after c.read_within-got.ensures.values_after c.in-Done.is
 
 -- The record that was refused.
 not : (c : In-Refused)
     → let s = c.before.before.before.before.before.before.before.before.before.before.before.before.before.before.before in
-    WasRefused s.args.limits s.args.«record».now s.args.limits.events s.args.limits.events c.in-Refused.refusal c.in-Refused.place
+    WasRefused c.args.limits c.args.«record».now c.args.limits.events c.args.limits.events c.in-Refused.refusal c.in-Refused.place
 not c =
-    let s = c.before.before.before.before.before.before.before.before.before.before.before.before.before.before.before in
-    was-refused s.args.limits s.args.«record».now s.args.heads.now s.args.values.now s.args.limits.events s.args.limits.events
-    (own-arrays s.args.limits s.args.«record».now s.requires.0 s.requires.1) c.read_within-got.ensures.result_value c.in-Refused.is
+    was-refused c.args.limits c.args.«record».now c.args.heads.now c.args.values.now c.args.limits.events c.args.limits.events
+    (own-arrays c.args.limits c.args.«record».now c.requires.0 c.requires.1) c.read_within-got.ensures.result_value c.in-Refused.is
 
 pub slice_bounds-print_played-end : goal.slice_bounds-print_played-end
 slice_bounds-print_played-end c = (done (goal.at.slice_bounds-print_played-end c).In-Done).in-heads
