@@ -4,7 +4,6 @@ use native.Mathlib.Omega.{arith}
 use lib.Seq.{set_out}
 use Rattle.pic_bits.proofs.Bits.{one_shifted}
 use Rattle.pic_sets.specs.Sets.{flipped_at, flipped_if}
-use borrow.Author.Rules.{rules}
 use Rattle.pic_sets.proofs.flips.flip.Goals as goal
 
 pub returns-then-rank-lt16 : goal.returns-then-rank-lt16
