@@ -11,8 +11,7 @@ loop-r-init c = (search rules, fill_none [] 16 _ _ c.sixteen.ensures.many)
 
 pub loop-r-preserved : goal.loop-r-preserved
 loop-r-preserved c =
-    let l = c.before.before in
-    (search rules, fill-next [] 16 _ l.loop-r.sets l.loop-r.r _ c.loop-r-test.true refl l.loop-r.invariant.1)
+    (search rules, fill-next [] 16 _ c.loop-r.sets c.loop-r.r _ c.loop-r-test.true refl c.loop-r.invariant.1)
 
 pub returns : goal.returns
 unfolding reversed_of
