@@ -2,20 +2,20 @@
 use Prim.Native.Nat.{ℕ, zero, suc, ◌+◌, ◌<◌, ◌≤◌}
 use mathlib.Core.Path.{◌≡◌, refl, sym, ap, ◌∙◌}
 use mathlib.Core.Bool.{Bool, true, false, ◌&&◌}
-use mathlib.Core.List.{List, []}
-use mathlib.Core.Logic.{◌⊎◌, inl, inr, ⊎_elim}
+use mathlib.Core.List.{List}
+use mathlib.Core.Logic.{◌⊎◌, inl, inr}
 use native.Mathlib.Omega.{arith}
 use lib.Dec.{eqb, leb}
 use lib.ListN.{replicate}
 use borrow.Author.Tests.{eq-eqb, ne_eqb, le-leb, lt-leb}
 use Rattle.pic_source.specs.declared.Rank.{Rank}
-use Rattle.pic_source.specs.Sources.{is_source, is_waiting}
+use Rattle.pic_source.specs.Sources.{is_waiting}
 use Rattle.pic_source.proofs.Bools.{eq-cases, le-cases}
 use Rattle.pic_bits.specs.Bits.{join_of, word_to}
 use Rattle.pic_bits.specs.Tables.{table_of}
 use Rattle.pic.specs.declared.Controller.{Controller}
 use Rattle.pic.specs.Sources.{rank_at, enable_at, trigger_at, polarity_at, line_at, latch_at}
-use Rattle.pic_sets.specs.Sets.{in_set, updated_of}
+use Rattle.pic_sets.specs.Sets.{updated_of}
 use Rattle.pic_sets.specs.Laws.{differs, is_in}
 use Rattle.pic_sets.proofs.Members.{update-shape, update-member}
 use Rattle.pic_ready.specs.Ready.{ready_at, belongs, sets_by, fresh_of}

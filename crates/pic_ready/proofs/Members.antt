@@ -1,13 +1,12 @@
 -- Who is in which set.
-use Prim.Native.Nat.{ℕ, ◌+◌, ◌*◌, ◌/◌, ◌%◌, ◌^◌, ◌<◌, ◌≤◌}
-use mathlib.Core.Path.{◌≡◌, refl, sym, ap, ◌∙◌}
-use mathlib.Core.Bool.{Bool, true, false, ◌&&◌}
+use Prim.Native.Nat.{ℕ, ◌/◌, ◌%◌, ◌^◌, ◌<◌, ◌≤◌}
+use mathlib.Core.Path.{◌≡◌, sym, ap, ◌∙◌}
+use mathlib.Core.Bool.{Bool}
 use mathlib.Core.List.{List, []}
 use mathlib.Core.Logic.{◌⊎◌, inl, inr}
 use native.Mathlib.Omega.{arith}
-use lib.Dec.{eqb}
 use lib.ListN.{get_or}
-use Rattle.pic_bits.specs.Bits.{source_of, word_of_bits, is_member, member_of, bit_of, has_bit}
+use Rattle.pic_bits.specs.Bits.{source_of, word_of_bits, is_member, has_bit}
 use Rattle.pic_bits.specs.Tables.{table_of}
 use Rattle.pic_bits.specs.Tables.{Shaped}
 use Rattle.pic_bits.proofs.Words.{has_word, word_lt}
@@ -15,7 +14,6 @@ use Rattle.pic_bits.proofs.Tables.{table_at, table-length, table-out}
 use Rattle.pic_bits.proofs.Shapes.{table-shape}
 use Rattle.pic_source.proofs.Bools.{le-cases}
 use Rattle.pic_sets.proofs.Same.{sets_same}
-use Rattle.pic.specs.declared.Controller.{Controller}
 use Rattle.pic_sets.specs.Sets.{in_set}
 use Rattle.pic_ready.specs.Ready.{belongs, sets_by, fresh_of, Member}
 

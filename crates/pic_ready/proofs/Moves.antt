@@ -7,20 +7,18 @@ use mathlib.Core.Logic.{◌⊎◌, inl, inr, ⊎_elim}
 use native.Mathlib.Omega.{arith}
 use lib.Dec.{eqb}
 use lib.ListN.{get_or}
-use borrow.Author.Tests.{eqb-true, eqb-false, eq-eqb, ne_eqb}
+use borrow.Author.Tests.{eq-eqb, ne_eqb}
 use Rattle.pic_source.specs.Sources.{is_source}
-use Rattle.pic_source.proofs.Bools.{decided, and_parts, eq-cases, le-cases}
+use Rattle.pic_source.proofs.Bools.{eq-cases, le-cases}
 use Rattle.pic_source.proofs.Mirror.{mirror-small, mirror-other}
 use Rattle.pic_source.proofs.Ranges.{source-range}
-use Rattle.pic_bits.specs.Bits.{source_of, word_of_bits}
-use Rattle.pic_bits.specs.Tables.{table_of}
+use Rattle.pic_bits.specs.Bits.{source_of}
 use Rattle.pic_bits.proofs.Words.{word_same}
 use Rattle.pic_bits.proofs.Tables.{table_at, table_same, table-out}
 use Rattle.pic.specs.declared.Controller.{Controller}
 use Rattle.pic.specs.Sources.{rank_at}
-use Rattle.pic.specs.Sound.{sound_of}
 use Rattle.pic.proofs.Soundness.{Sound, facts}
-use Rattle.pic_sets.specs.Sets.{in_set, reversed_of}
+use Rattle.pic_sets.specs.Sets.{reversed_of}
 use Rattle.pic_sets.specs.Laws.{differs}
 use Rattle.pic_sets.proofs.Reversal.{reverse-member}
 use Rattle.pic_sets.proofs.Same.{shape-kept}

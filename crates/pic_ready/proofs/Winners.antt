@@ -1,23 +1,22 @@
 -- The winner from the sets worked out afresh is 01's.
 use Prim.Native.Nat.{ℕ, ◌<◌, ◌≤◌}
 use mathlib.Core.Path.{◌≡◌, refl, sym, ap, ◌∙◌}
-use mathlib.Core.Bool.{Bool, true, false, ◌&&◌}
-use mathlib.Core.List.{List, []}
+use mathlib.Core.Bool.{true}
+use mathlib.Core.List.{[]}
 use mathlib.Core.Logic.{◌⊎◌, inl, inr, ⊎_elim}
 use native.Mathlib.Omega.{arith}
-use lib.Dec.{eqb, leb}
+use lib.Dec.{eqb}
 use lib.ListN.{get_or}
 use borrow.Author.Tests.{eqb-true, eq-eqb, le-leb}
 use Rattle.pic_source.specs.Ranks.{rank}
-use Rattle.pic_source.specs.Sources.{is_source, is_waiting}
+use Rattle.pic_source.specs.Sources.{is_source}
 use Rattle.pic_source.proofs.Bools.{never, and_parts, eq-cases, le-cases}
 use Rattle.pic_source.proofs.Mirror.{mirror-small}
 use Rattle.pic_source.proofs.Ranges.{source-range}
 use Rattle.pic_comparator.specs.declared.Winner.{Winner}
 use Rattle.pic_bits.specs.Bits.{is_member}
 use Rattle.pic.specs.declared.Controller.{Controller}
-use Rattle.pic.specs.Sources.{rank_at, enable_at, pending_at, eligible_at, winner_of, Eligible, Before, HasWinner, HasNoWinner, IsWinner}
-use Rattle.pic.specs.Sound.{sound_of}
+use Rattle.pic.specs.Sources.{rank_at, enable_at, pending_at, winner_of, Eligible, Before, HasWinner, HasNoWinner, IsWinner}
 use Rattle.pic.proofs.Soundness.{Sound, facts}
 use Rattle.pic.proofs.Winning.{winner-is, eligible-parts, eligible-is}
 use Rattle.pic_sets_winner.specs.Highest.{highest_of, ReadFrom, NothingIn}

@@ -1,3 +1,4 @@
+#![tactic(auto)]
 // The ready sets of a controller, worked out afresh.
 
 ghost use Rattle.std.specs.Prelude.{◌≡◌};

@@ -1,13 +1,12 @@
 -- The shape is kept, and sets with the same sources are the same.
 use Prim.Native.Nat.{ℕ, ◌+◌, ◌*◌, ◌/◌, ◌%◌, ◌<◌}
-use mathlib.Core.Path.{◌≡◌, refl, sym, ap, ◌∙◌}
+use mathlib.Core.Path.{◌≡◌, sym, ap, ◌∙◌}
 use mathlib.Core.Bool.{Bool, cond}
 use mathlib.Core.List.{List, []}
 use native.Mathlib.Omega.{arith}
-use lib.ListN.{length, get_or}
+use lib.ListN.{get_or}
 use lib.Seq.{ext_get_or}
 use Rattle.pic_bits.specs.Bits.{bit_of, member_of, source_of}
-use Rattle.pic_bits.specs.Tables.{Shaped}
 use Rattle.pic_bits.proofs.Bits.{bit-cases, same_bits}
 use Rattle.pic_bits.proofs.Words.{bit-number}
 use Rattle.pic_sets.specs.Sets.{in_set, flipped_word}

@@ -1,13 +1,13 @@
 -- The bits of a word taken one after the other, from the lowest up.
-use Prim.Native.Nat.{ℕ, zero, suc, ◌+◌, ◌-◌, ◌*◌, ◌^◌, ◌<◌, ◌≤◌}
+use Prim.Native.Nat.{ℕ, zero, suc, ◌+◌, ◌-◌, ◌^◌, ◌<◌, ◌≤◌}
 use mathlib.Core.Path.{◌≡◌, refl, sym, ap, ◌∙◌}
-use mathlib.Core.Bool.{Bool, true, false}
+use mathlib.Core.Bool.{true}
 use mathlib.Core.List.{List}
 use mathlib.Core.Logic.{◌⊎◌, inl, inr}
 use native.Mathlib.Omega.{arith}
 use Rattle.pic_source.specs.declared.Rank.{Rank}
 use Rattle.pic_source.proofs.Bools.{eq-cases, le-cases}
-use Rattle.pic_bits.specs.Bits.{bit_of, has_bit, source_of, Lowest}
+use Rattle.pic_bits.specs.Bits.{bit_of, source_of, Lowest}
 use Rattle.pic_bits.proofs.Bits.{none-of-zero, clear-same, clear-other}
 use Rattle.pic_sets.specs.Sets.{flipped_if, flipped_to, flipped_word}
 

@@ -1,18 +1,17 @@
 -- One turn of the loop over the sets, and the sentence about the highest set.
-use Prim.Native.Nat.{ℕ, zero, suc, ◌+◌, ◌-◌, ◌<◌, ◌≤◌}
-use mathlib.Core.Path.{◌≡◌, refl, sym, ap, ◌∙◌}
+use Prim.Native.Nat.{ℕ, zero, suc, ◌-◌, ◌<◌, ◌≤◌}
+use mathlib.Core.Path.{◌≡◌, refl, ap, ◌∙◌}
 use mathlib.Core.Bool.{Bool, true, false, cond}
 use mathlib.Core.List.{List, []}
 use mathlib.Core.Logic.{◌⊎◌, inl, inr, ⊎_elim}
 use native.Mathlib.Omega.{arith}
-use lib.Dec.{eqb}
 use lib.ListN.{get_or}
 use borrow.Author.Tests.{eqb-true, eqb-false}
 use Rattle.pic_source.specs.Ranks.{rank}
 use Rattle.pic_source.proofs.Bools.{eq-cases}
 use Rattle.pic_comparator.specs.declared.Winner.{Winner}
 use Rattle.pic_bits.specs.Bits.{is_member}
-use Rattle.pic_sets_winner.specs.Highest.{lowest_of, is_empty, highest_to, highest_of, ReadFrom, NothingIn, HighestIs}
+use Rattle.pic_sets_winner.specs.Highest.{lowest_of, is_empty, highest_to, ReadFrom, NothingIn, HighestIs}
 use Rattle.pic_sets_winner.proofs.Firsts.{first}
 
 module _ (sets : List (List ℕ)) where

@@ -1,3 +1,4 @@
+#![tactic(auto)]
 // The winner from the ready sets: for each rank 0 to 15 a set of 256 bits, bit y of word x for source 32 x + y.
 
 ghost use Rattle.std.specs.Prelude.{◌≡◌};

@@ -1,5 +1,5 @@
 -- Sets that follow a sample, and a store.
-use Prim.Native.Nat.{ℕ, ◌-◌, ◌/◌, ◌%◌, ◌<◌, ◌≤◌}
+use Prim.Native.Nat.{ℕ, ◌-◌, ◌/◌, ◌%◌, ◌≤◌}
 use mathlib.Core.Path.{◌≡◌, refl, sym, ap, ◌∙◌}
 use mathlib.Core.Bool.{Bool, true, false}
 use mathlib.Core.List.{List}
@@ -18,7 +18,7 @@ use Rattle.pic_registers.specs.Offsets.{register_at, offset_refusal}
 use Rattle.pic_registers.specs.Registers.{written_of}
 use Rattle.pic_registers.specs.Calls.{sample_of, store_of}
 use Rattle.pic_sets.specs.Sets.{reversed_of}
-use Rattle.pic_ready.specs.Ready.{belongs, fresh_of, moved_of, followed_of, switched}
+use Rattle.pic_ready.specs.Ready.{fresh_of, moved_of, followed_of, switched}
 use Rattle.pic_ready.proofs.Moves.{moved-fresh, switched-fresh}
 use Rattle.pic_updates.specs.Updates.{moved_at, moved_word, SampleFresh, StoreFresh}
 use Rattle.pic_updates.proofs.Moving.{all_moved}

@@ -1,12 +1,12 @@
 -- Sets that follow one source, and the sources of a word.
-use Prim.Native.Nat.{ℕ, zero, suc, ◌+◌, ◌*◌, ◌/◌, ◌%◌, ◌<◌, ◌≤◌}
+use Prim.Native.Nat.{ℕ, ◌+◌, ◌*◌, ◌/◌, ◌%◌, ◌<◌, ◌≤◌}
 use mathlib.Core.Path.{◌≡◌, refl, sym, ap, ◌∙◌}
 use mathlib.Core.Bool.{Bool, true, false, ◌&&◌}
-use mathlib.Core.List.{List, []}
-use mathlib.Core.Logic.{◌⊎◌, inl, inr, ⊎_elim}
+use mathlib.Core.List.{List}
+use mathlib.Core.Logic.{◌⊎◌, inl, inr}
 use native.Mathlib.Omega.{arith}
 use lib.Dec.{eqb, ltb}
-use borrow.Author.Tests.{eqb-true, eq-eqb, ne_eqb, lt-ltb, le-ltb}
+use borrow.Author.Tests.{eq-eqb, ne_eqb, lt-ltb, le-ltb}
 use Rattle.pic_source.specs.declared.Rank.{Rank}
 use Rattle.pic_source.proofs.Bools.{eq-cases, le-cases}
 use Rattle.pic_bits.specs.Tables.{Shaped}
@@ -15,8 +15,8 @@ use Rattle.pic.specs.Sources.{rank_at}
 use Rattle.pic_sets.specs.Sets.{in_set, updated_of}
 use Rattle.pic_sets.specs.Laws.{differs, is_in}
 use Rattle.pic_sets.proofs.Members.{update-shape, update-member}
-use Rattle.pic_ready.specs.Ready.{ready_at, belongs, sets_by, moved_of}
-use Rattle.pic_ready.proofs.Members.{by-shaped, by-same, in-sets, sets-are}
+use Rattle.pic_ready.specs.Ready.{ready_at, belongs, moved_of}
+use Rattle.pic_ready.proofs.Members.{by-same, in-sets, sets-are}
 use Rattle.pic_updates.specs.Updates.{moved_where, moved_at, moved_word}
 
 module _ (c d : Controller) where

@@ -1,20 +1,16 @@
 -- What a sample and a store leave: every source of another word, every source but one.
 use Prim.{Unit, tt}
-use Prim.Native.Nat.{ℕ, ◌+◌, ◌*◌, ◌/◌, ◌%◌, ◌<◌, ◌≤◌}
-use mathlib.Core.Path.{◌≡◌, refl, sym, ap, ◌∙◌}
-use mathlib.Core.Bool.{Bool, true, false, cond, ◌&&◌}
-use mathlib.Core.List.{List}
-use mathlib.Core.Logic.{◌⊎◌, inl, inr}
+use Prim.Native.Nat.{ℕ, ◌/◌, ◌%◌, ◌<◌, ◌≤◌}
+use mathlib.Core.Path.{◌≡◌, refl}
+use mathlib.Core.Bool.{Bool, true, false, cond}
+use mathlib.Core.Logic.{inl}
 use native.Mathlib.Omega.{arith}
 use lib.Dec.{eqb, leb, ltb}
-use lib.ListN.{get_or, set}
+use lib.ListN.{set}
 use lib.Seq.{get_or-set_other}
-use borrow.Author.Tests.{eqb-true}
-use Rattle.pic_source.specs.Sources.{is_source, is_waiting}
-use Rattle.pic_source.proofs.Bools.{never}
+use Rattle.pic_source.specs.Sources.{is_source}
 use Rattle.pic_source.proofs.Ranges.{source-range}
 use Rattle.pic.specs.declared.Controller.{Controller}
-use Rattle.pic.specs.Sources.{rank_at}
 use Rattle.pic.specs.Calls.{accepts, asks}
 use Rattle.pic_registers.specs.declared.Register.{Register}
 use Rattle.pic_registers.specs.declared.Register.TheVariants.{Meipl, Meip, Meie, Mpiccfg, Meigwctrl, Meigwclr, NoRegister}

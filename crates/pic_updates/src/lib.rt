@@ -1,3 +1,4 @@
+#![tactic(auto)]
 // Samples and stores of a controller whose ready sets are lent, and brought up to date.
 
 ghost use Rattle.std.specs.Prelude.{◌≡◌, ◌%◌, ◌/◌, eqb};

@@ -1,61 +1,53 @@
 use mir.Syntax.{w32}
 use mir.Val.{Fits}
-use Prim.Native.Nat.{ℕ, ◌+◌, ◌%◌, ◌^◌, ◌<◌}
+use Prim.Native.Nat.{ℕ, ◌+◌, ◌^◌, ◌<◌}
 use mathlib.Core.Path.{◌≡◌}
 use native.Mathlib.Omega.{arith}
 use lib.Pow.{pow_pos}
-use Rattle.pic_bits.specs.Bits.{Lowest}
+use Rattle.pic_bits.specs.Bits.{Lowest, lowest_bit}
 use Rattle.pic_bits.proofs.Bits.{bit_le, one_shifted}
 use Rattle.pic_bits.proofs.Zeros.{lowest-is}
-use Rattle.pic_sets.specs.Sets.{rank_at}
-use Rattle.pic_sets.proofs.Steps.{Done, begun, turned, ended}
+use Rattle.pic_sets.proofs.Steps.{begun, turned, ended}
 use borrow.Author.Rules.{rules}
 use Rattle.pic_sets.proofs.flips.flip_word.Goals as goal
 
--- The bit of this turn is the lowest that is left.
-abbrev Place : Type 0
-Place =
-    goal.After-lowest_bit-y
-
-lowest : (c : Place) → Lowest 32 c.loop-left.left c.lowest_bit-y.result
-lowest c = rw c.lowest_bit-y.ensures (lowest-is c.loop-left.left (omega (arith, c.loop-left-test.true)) c.loop-left.invariant.0)
+-- The bit of a turn is the lowest that is left.
+lowest : (left y : ℕ) → y ≡ lowest_bit left → 0 < left → left < 2 ^ 32 → Lowest 32 left y
+lowest left y e more f = rw e (lowest-is left more f)
 
 pub loop-left-init : goal.loop-left-init
 loop-left-init c = (let f : Fits w32 c.args.changed = search rules in f.fits, 0, begun _ _ _ _)
 
 pub overflow_cast-s : goal.overflow_cast-s
-overflow_cast-s c = record { fits = omega (arith, (lowest c).within) }
+overflow_cast-s c = record { fits = omega (arith, (lowest _ _ c.lowest_bit-y.ensures (omega arith) c.loop-left.invariant.0).within) }
 
 pub overflow_add-s : goal.overflow_add-s
-overflow_add-s c = record { fits = omega (arith, (lowest c).within) }
+overflow_add-s c = record { fits = omega (arith, (lowest _ _ c.lowest_bit-y.ensures (omega arith) c.loop-left.invariant.0).within) }
 
 pub bounds-field-s : goal.bounds-field-s
-bounds-field-s c = omega (arith, (lowest c.before).within)
+bounds-field-s c = omega (arith, (lowest _ _ c.lowest_bit-y.ensures (omega arith) c.loop-left.invariant.0).within)
 
 pub overflow_shl-left : goal.overflow_shl-left
-overflow_shl-left c = (lowest c.before.before.before.before).within
+overflow_shl-left c = (lowest _ _ c.lowest_bit-y.ensures (omega arith) c.loop-left.invariant.0).within
 
 pub overflow_sub-left : goal.overflow_sub-left
 overflow_sub-left c =
-    let b = c.before.before.before.before in
-    let l = lowest b in
-    rw (one_shifted b.lowest_bit-y.result l.within) (bit_le b.lowest_bit-y.result b.loop-left.left l.on)
+    let l = lowest _ _ c.lowest_bit-y.ensures (omega arith) c.loop-left.invariant.0 in
+    rw (one_shifted c.lowest_bit-y.result l.within) (bit_le c.lowest_bit-y.result c.loop-left.left l.on)
 
 pub loop-left-smaller : goal.loop-left-smaller
 loop-left-smaller c =
-    let b = c.before.before.before.before in
-    let l = lowest b in
-    let y = b.lowest_bit-y.result in
+    let l = lowest _ _ c.lowest_bit-y.ensures (omega arith) c.loop-left.invariant.0 in
+    let y = c.lowest_bit-y.result in
     let p : 0 < 2 ^ y = pow_pos y in
-    let k = bit_le y b.loop-left.left l.on in
+    let k = bit_le y c.loop-left.left l.on in
     rw (one_shifted y l.within) (omega (arith, p, k))
 
 pub loop-left-preserved : goal.loop-left-preserved
 loop-left-preserved c =
-    let b = c.before.before.before.before in
-    let l = lowest b in
-    let y = b.lowest_bit-y.result in
-    let i = b.loop-left.invariant in
+    let l = lowest _ _ c.lowest_bit-y.ensures (omega arith) c.loop-left.invariant.0 in
+    let y = c.lowest_bit-y.result in
+    let i = c.loop-left.invariant in
     (omega (arith, i.0), y + 1, rw (one_shifted y l.within, c.flip.ensures, c.to_rank.ensures) (turned _ _ _ _ _ i.1 y _ i.2 l))
 
 pub returns : goal.returns

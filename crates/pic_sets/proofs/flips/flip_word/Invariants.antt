@@ -1,15 +1,6 @@
-use mir.Syntax.{w32}
-use mir.Val.{Fits}
-use Prim.Native.Nat.{ℕ, ◌+◌, ◌%◌, ◌^◌, ◌<◌}
-use mathlib.Core.Path.{◌≡◌}
-use native.Mathlib.Omega.{arith}
-use lib.Pow.{pow_pos}
-use Rattle.pic_bits.specs.Bits.{Lowest}
-use Rattle.pic_bits.proofs.Bits.{bit_le, one_shifted}
-use Rattle.pic_bits.proofs.Zeros.{lowest-is}
+use Prim.Native.Nat.{ℕ, ◌%◌, ◌^◌, ◌<◌}
 use Rattle.pic_sets.specs.Sets.{rank_at}
-use Rattle.pic_sets.proofs.Steps.{Done, begun, turned, ended}
-use borrow.Author.Rules.{rules}
+use Rattle.pic_sets.proofs.Steps.{Done}
 use Rattle.pic_sets.proofs.flips.flip_word.Given as goal
 
 abbrev pub invariant-loop-left : goal.invariant-loop-left

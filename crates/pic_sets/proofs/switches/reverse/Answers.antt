@@ -1,9 +1,7 @@
-use Prim.Native.Nat.{ℕ, ◌≤◌, ◌-◌}
 use mathlib.Core.Path.{◌≡◌, refl}
 use mathlib.Core.List.{[]}
 use native.Mathlib.Omega.{arith}
-use lib.ListN.{get_or}
-use Rattle.pic_bits.proofs.Tables.{Filled, fill_none, fill-next, fill-all}
+use Rattle.pic_bits.proofs.Tables.{fill_none, fill-next, fill-all}
 use Rattle.pic_sets.specs.Sets.{reversed_of}
 use borrow.Author.Rules.{rules}
 use Rattle.pic_sets.proofs.switches.reverse.Goals as goal
@@ -13,8 +11,7 @@ loop-r-init c = (search rules, fill_none [] 16 _ _ c.sixteen.ensures.many)
 
 pub loop-r-preserved : goal.loop-r-preserved
 loop-r-preserved c =
-    let l = c.before.before in
-    (search rules, fill-next [] 16 _ l.loop-r.sets l.loop-r.r _ c.loop-r-test.true refl l.loop-r.invariant.1)
+    (search rules, fill-next [] 16 _ c.loop-r.sets c.loop-r.r _ c.loop-r-test.true refl c.loop-r.invariant.1)
 
 pub returns : goal.returns
 unfolding reversed_of

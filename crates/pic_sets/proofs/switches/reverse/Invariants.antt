@@ -1,11 +1,7 @@
 use Prim.Native.Nat.{ℕ, ◌≤◌, ◌-◌}
-use mathlib.Core.Path.{◌≡◌, refl}
 use mathlib.Core.List.{[]}
-use native.Mathlib.Omega.{arith}
 use lib.ListN.{get_or}
-use Rattle.pic_bits.proofs.Tables.{Filled, fill_none, fill-next, fill-all}
-use Rattle.pic_sets.specs.Sets.{reversed_of}
-use borrow.Author.Rules.{rules}
+use Rattle.pic_bits.proofs.Tables.{Filled}
 use Rattle.pic_sets.proofs.switches.reverse.Given as goal
 
 abbrev pub invariant-loop-r : goal.invariant-loop-r
