@@ -1,18 +1,21 @@
+#![tactic(auto)]
+
 // Plays a short record on little memory, from a file or from standard input: the print on standard output.
 
 // One byte more than the longest short record, so that longer input is refused by the questions, as all of it would be.
 const INPUT_SIZE: usize = record::COMPACT_SIZE + 1;
 
 // Writes the print of a record.
-fn show(record: &[u8]) {
+fn show(rt: &HostRuntime, record: &[u8]) {
     let mut out: [u8; playback::COMPACT_PRINT_SIZE] = [0; playback::COMPACT_PRINT_SIZE];
     let length = playback::print_compact(record, &mut out);
-    console::write_out(&out[..length]);
+    console::write_out(rt, &out[..length]);
 }
 
-fn main() {
+fn main(rt: HostRuntime) {
     let mut record: [u8; INPUT_SIZE] = [0; INPUT_SIZE];
     let input = console::read_input(
+        &rt,
         &mut record,
         b"usage: compact_player [FILE]\nplays the record in FILE, or on standard input, with N up to 63 and 500 events, and prints it\n",
     );
@@ -20,5 +23,5 @@ fn main() {
         return;
     }
     let length = input.length;
-    show(&record[..length]);
+    show(&rt, &record[..length]);
 }

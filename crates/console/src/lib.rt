@@ -1,10 +1,23 @@
+#![tactic(auto)]
+
 // What a program reads, whole: the file that its one argument names, or standard input; and what it writes to standard output and standard error.
-// What is read and written is outside any contract: these say that the count of bytes read lies within the buffer.
+// Which bytes the system gives and takes is outside any contract: these say that the count of bytes read lies within the buffer.
 
-ghost use Rattle.std.specs.Prelude.{◌+◌, ◌≤◌, length};
-ghost use Rattle.io.specs.Counts.{IsPrefixLen};
+ghost use Rattle.std.specs.Prelude.{◌≡◌, ◌+◌, ◌<◌, ◌≤◌, ◌≢◌, ◌↔◌, IsTrue, IsFalse, length, take, drop, slice_index};
+ghost use Rattle.console.specs.Counts.{IsPrefixLen};
+ghost use Rattle.std.specs.Io.{StartsWith};
+ghost use Rattle.std.specs.Io.KnownBytes.{Consumes, IsAtEnd};
 
-use libc::{STDERR_FILENO, STDIN_FILENO, STDOUT_FILENO};
+use std::env::{Env, FillError};
+use std::fs::File;
+use std::io;
+use std::io::{Cursor, Read, Write};
+
+// The buffer for a name: no longer one is a file's.
+const NAME_SIZE: usize = 4096;
+
+// The buffer for the words of an error.
+const WORDS_SIZE: usize = 256;
 
 // What was read: whether that failed, and how many bytes stand at the start of the buffer.
 #[derive(Clone, Copy)]
@@ -14,21 +27,31 @@ pub struct Input {
 }
 
 // One read into the buffer from a place on.
-fn read_some(file: i32, buffer: &mut [u8], at: usize) -> Input
+fn read_some<R: Read>(file: &mut R, buffer: &mut [u8], at: usize) -> Input
     requires { at ≤ length buffer.old }
-    ensures { at + result.length ≤ length buffer.old }
+    ensures within { at + result.length ≤ length buffer.old }
+    ensures front { take at buffer.new ≡ take at buffer.old }
+    ensures bytes { IsFalse result.failed → Consumes (R.remaining file.old) (R.remaining file.new) (take result.length (drop at buffer.new)) }
+    ensures end { IsFalse result.failed → result.length ≡ 0 → at < length buffer.old → IsAtEnd (R.remaining file.new) }
 {
-    let rest = &mut buffer[at..];
-    let got = libc::read(file, rest);
-    Input {
-        failed: got < 0,
-        length: io::count(got, rest),
+    match file.read(&mut buffer[at..]) {
+        Ok(length) => Input {
+            failed: false,
+            length,
+        },
+        Err(_) => Input {
+            failed: true,
+            length: 0,
+        },
     }
 }
 
 // Reads until the input ends or the buffer is full, also from a pipe that gives a few bytes at a time.
-fn read_all(file: i32, buffer: &mut [u8]) -> Input
-    ensures { IsPrefixLen result.length buffer.new }
+fn read_all<R: Read>(file: &mut R, buffer: &mut [u8]) -> Input
+    ensures within { IsPrefixLen result.length buffer.new }
+    ensures none { IsTrue result.failed → result.length ≡ 0 }
+    ensures bytes { IsFalse result.failed → Consumes (R.remaining file.old) (R.remaining file.new) (take result.length buffer.new) }
+    ensures end { IsFalse result.failed → result.length < length buffer.new → IsAtEnd (R.remaining file.new) }
 {
     let mut at: usize = 0;
     while at < buffer.len() {
@@ -55,7 +78,8 @@ fn read_all(file: i32, buffer: &mut [u8]) -> Input
 
 // It failed, and none of the buffer's bytes count.
 fn nothing(buffer: &[u8]) -> Input
-    ensures { IsPrefixLen result.length buffer.now }
+    ensures within { IsPrefixLen result.length buffer.now }
+    ensures none { IsTrue result.failed × (result.length ≡ 0) }
 {
     Input {
         failed: true,
@@ -64,92 +88,209 @@ fn nothing(buffer: &[u8]) -> Input
 }
 
 // Writes the bytes to standard error.
-pub fn say(bytes: &[u8]) {
-    io::write_all(STDERR_FILENO, bytes);
+pub fn say(rt: &HostRuntime, bytes: &[u8]) {
+    let _ = rt.stderr().write_all(bytes);
 }
 
 // Writes the bytes to standard output. Where that fails, it is said on standard error.
-pub fn write_out(bytes: &[u8]) {
-    if !io::write_all(STDOUT_FILENO, bytes) {
-        say(b"cannot write standard output\n");
+pub fn write_out(rt: &HostRuntime, bytes: &[u8]) {
+    if rt.stdout().write_all(bytes).is_err() {
+        say(rt, b"cannot write standard output\n");
     }
 }
 
 // Says what cannot be read.
-fn say_unread(name: &[u8]) {
-    say(b"cannot read ");
-    say(name);
-    say(b"\n");
+fn say_unread(rt: &HostRuntime, name: &[u8]) {
+    say(rt, b"cannot read ");
+    say(rt, name);
+    say(rt, b"\n");
+}
+
+// Says what cannot be opened, and why.
+fn say_unopened(rt: &HostRuntime, name: &[u8], why: &[u8]) {
+    say(rt, b"cannot open ");
+    say(rt, name);
+    say(rt, b": ");
+    say(rt, why);
+    say(rt, b"\n");
+}
+
+// The words of an error's text, which ends in the system's number.
+fn without_number(text: &str) -> &str
+    ensures { StartsWith text.now result.now }
+{
+    match text.split_once(" (os error ") {
+        Some((words, _)) => words,
+        None => text,
+    }
+}
+
+// Says that the file of this name cannot be opened, with the system's words for why.
+fn say_refused(rt: &HostRuntime, name: &[u8], error: io::Error) {
+    let mut text = Cursor::new([0u8; WORDS_SIZE]);
+    let _ = write!(text, "{error}");
+    let length = (text.position() as usize).min(WORDS_SIZE);
+    let bytes = text.into_inner();
+    let words = std::str::from_utf8(&bytes[..length]).unwrap_or("");
+    say_unopened(rt, name, without_number(words).as_bytes());
 }
 
 // Reads standard input, and says so where it cannot be read.
-fn read_standard(buffer: &mut [u8]) -> Input
-    ensures { IsPrefixLen result.length buffer.new }
+fn read_standard(rt: &HostRuntime, buffer: &mut [u8]) -> Input
+    ensures within { IsPrefixLen result.length buffer.new }
+    ensures none { IsTrue result.failed → result.length ≡ 0 }
 {
-    let input = read_all(STDIN_FILENO, buffer);
+    let input = read_all(&mut rt.stdin(), buffer);
     if input.failed {
-        say_unread(b"standard input");
+        say_unread(rt, b"standard input");
     }
     input
 }
 
-// Reads the file of this name, and says so where it cannot be opened or read. It is opened for reading alone, and closed before anything is written, so that
-// nothing reaches it even where a closed standard output or standard error left it that number.
-fn read_file(name: &[u8], buffer: &mut [u8]) -> Input
-    ensures { IsPrefixLen result.length buffer.new }
+// Reads the file, and closes it before anything is written, so that nothing reaches it even where a closed standard output or standard error left it
+// that number.
+fn read_open(mut file: File, buffer: &mut [u8]) -> Input
+    ensures within { IsPrefixLen result.length buffer.new }
+    ensures none { IsTrue result.failed → result.length ≡ 0 }
 {
-    let file = os::open_read(name);
-    if file < 0 {
-        say(b"cannot open ");
-        os::fail(name);
-        return nothing(buffer);
-    }
-    let input = read_all(file, buffer);
-    libc::close(file);
-    if input.failed {
-        say_unread(name);
-    }
+    let input = read_all(&mut file, buffer);
+    drop(file);
     input
+}
+
+// Reads the file of this name, and says so where it cannot be opened or read. It is opened for reading alone.
+fn read_file(rt: &HostRuntime, name: &str, buffer: &mut [u8]) -> Input
+    ensures within { IsPrefixLen result.length buffer.new }
+    ensures none { IsTrue result.failed → result.length ≡ 0 }
+{
+    match File::open(rt, name) {
+        Ok(file) => {
+            let input = read_open(file, buffer);
+            if input.failed {
+                say_unread(rt, name.as_bytes());
+            }
+            input
+        }
+        Err(error) => {
+            say_refused(rt, name.as_bytes(), error);
+            nothing(buffer)
+        }
+    }
+}
+
+// Reads the file of this name. std opens no file whose name is no text.
+fn read_named(rt: &HostRuntime, name: &[u8], buffer: &mut [u8]) -> Input
+    ensures within { IsPrefixLen result.length buffer.new }
+    ensures none { IsTrue result.failed → result.length ≡ 0 }
+{
+    match std::str::from_utf8(name) {
+        Ok(text) => read_file(rt, text, buffer),
+        Err(_) => {
+            say_unopened(rt, name, b"the name is not UTF-8");
+            nothing(buffer)
+        }
+    }
 }
 
 // Whether an argument names a file: it has bytes, and the first is no minus.
-fn is_name(argument: &[u8]) -> bool {
+fn is_name(argument: &[u8]) -> bool
+    ensures { IsTrue result ↔ ((0 < length argument.now) × (slice_index argument.now 0 ≢ 45)) }
+{
     if argument.len() == 0 {
         return false;
     }
     argument[0] != b'-'
 }
 
-// Reads the file that the first argument names. Where it names none, the usage is said. One that is longer than any name is not handed out whole,
-// which os::errno tells.
-fn read_argument(buffer: &mut [u8], usage: &[u8]) -> Input
-    ensures { IsPrefixLen result.length buffer.new }
+// Reads the file that the first argument names. Where it names none, the usage is said. One that is longer than any name is not handed out whole.
+fn read_argument(rt: &HostRuntime, buffer: &mut [u8], usage: &[u8]) -> Input
+    ensures within { IsPrefixLen result.length buffer.new }
+    ensures none { IsTrue result.failed → result.length ≡ 0 }
 {
-    let mut name = io::buffer();
-    let length = os::arg(1, &mut name);
-    if os::errno() != 0 {
-        os::fail(b"cannot open FILE");
-        return nothing(buffer);
+    let mut name = [0u8; NAME_SIZE];
+    match rt.arg(1, &mut name) {
+        Ok(length) => {
+            if is_name(&name[..length]) {
+                return read_named(rt, &name[..length], buffer);
+            }
+            say(rt, usage);
+            nothing(buffer)
+        }
+        Err(_) => {
+            say_unopened(rt, b"FILE", b"File name too long");
+            nothing(buffer)
+        }
     }
-    if is_name(&name[..length]) {
-        return read_file(&name[..length], buffer);
+}
+
+// Whether the program has this argument. The first after its own name is argument 1.
+fn has_argument(rt: &impl Env, place: usize) -> bool {
+    match rt.arg(place, &mut []) {
+        Err(FillError::NotPresent) => false,
+        _ => true,
     }
-    say(usage);
-    nothing(buffer)
 }
 
 // Reads standard input where the program has no argument, or the file that its one argument names. Where that fails, it is said on standard error,
 // and nothing is left to be done.
-pub fn read_input(buffer: &mut [u8], usage: &[u8]) -> Input
-    ensures { IsPrefixLen result.length buffer.new }
+pub fn read_input(rt: &HostRuntime, buffer: &mut [u8], usage: &[u8]) -> Input
+    ensures within { IsPrefixLen result.length buffer.new }
+    ensures none { IsTrue result.failed → result.length ≡ 0 }
 {
-    let words = os::arg_count();
-    if words <= 1 {
-        return read_standard(buffer);
+    if has_argument(rt, 2) {
+        say(rt, usage);
+        return nothing(buffer);
     }
-    if words == 2 {
-        return read_argument(buffer, usage);
+    if has_argument(rt, 1) {
+        return read_argument(rt, buffer, usage);
     }
-    say(usage);
-    nothing(buffer)
+    read_standard(rt, buffer)
+}
+
+#[cfg(test)]
+mod tests {
+    use super::*;
+
+    // Gives as many bytes as are left, one in each read, and then ends or fails.
+    #[derive(Drop)]
+    struct Trickle {
+        left: u8,
+        fails: bool,
+    }
+
+    impl Read for Trickle {
+        fn read(&mut self, buffer: &mut [u8]) -> io::Result<usize> {
+            if buffer.is_empty() {
+                return Ok(0);
+            }
+            if self.left == 0 {
+                return if self.fails {
+                    Err(io::Error::from(io::ErrorKind::InvalidData))
+                } else {
+                    Ok(0)
+                };
+            }
+            buffer[0] = self.left;
+            self.left -= 1;
+            Ok(1)
+        }
+    }
+
+    // The bytes that are left, what comes after them, and how many are read into four.
+    #[test]
+    fn reads_until_the_end_or_full(rt: HostRuntime) {
+        for (left, fails, failed, length) in [
+            (0, false, false, 0),
+            (3, false, false, 3),
+            (4, true, false, 4),
+            (9, false, false, 4),
+            (3, true, true, 0),
+            (0, true, true, 0),
+        ] {
+            let mut buffer = [0u8; 4];
+            let input = read_all(&mut Trickle { left, fails }, &mut buffer);
+            assert_eq!(rt; input.failed, failed, "of {left}");
+            assert_eq!(rt; input.length, length, "of {left}");
+        }
+    }
 }

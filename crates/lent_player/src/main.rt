@@ -1,3 +1,5 @@
+#![tactic(auto)]
+
 // Plays a record on one machine that is lent for each event: the record from a file or from standard input, and on standard output what the player prints.
 
 ghost use Rattle.std.specs.Prelude.{◌≡◌, ◌≤◌, length};
@@ -44,15 +46,16 @@ fn print(record: &[u8], out: &mut [u8; LINES_SIZE]) -> usize
 }
 
 // Writes the print of a record.
-fn show(record: &[u8]) {
+fn show(rt: &HostRuntime, record: &[u8]) {
     let mut out: [u8; LINES_SIZE] = [0; LINES_SIZE];
     let length = print(record, &mut out);
-    console::write_out(&out[..length]);
+    console::write_out(rt, &out[..length]);
 }
 
-fn main() {
+fn main(rt: HostRuntime) {
     let mut record: [u8; INPUT_SIZE] = [0; INPUT_SIZE];
     let input = console::read_input(
+        &rt,
         &mut record,
         b"usage: lent_player [FILE]\nplays the record in FILE, or on standard input, on a lent machine, and prints it\n",
     );
@@ -60,5 +63,5 @@ fn main() {
         return;
     }
     let length = input.length;
-    show(&record[..length]);
+    show(&rt, &record[..length]);
 }

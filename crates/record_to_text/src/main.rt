@@ -1,3 +1,5 @@
+#![tactic(auto)]
+
 // Makes a text of a record, from a file or from standard input: the text on standard output. A record that is refused is said on standard error.
 use record::RECORD_SIZE;
 use text_messages::MESSAGE_SIZE;
@@ -7,24 +9,25 @@ use text_writer::{LISTING_SIZE, TextAnswer};
 const INPUT_SIZE: usize = RECORD_SIZE + 1;
 
 // Says why the record is refused, and at which place.
-fn say_refused(refusal: u8, place: usize) {
+fn say_refused(rt: &HostRuntime, refusal: u8, place: usize) {
     let mut message: [u8; MESSAGE_SIZE] = [0; MESSAGE_SIZE];
     let length = text_messages::refused(refusal, place, &mut message);
-    console::say(&message[..length]);
+    console::say(rt, &message[..length]);
 }
 
-fn convert(bytes: &[u8]) {
+fn convert(rt: &HostRuntime, bytes: &[u8]) {
     let mut text: [u8; LISTING_SIZE] = [0; LISTING_SIZE];
     let answer = text_writer::to_text(bytes, &mut text);
     match answer {
-        TextAnswer::Done { length } => console::write_out(&text[..length]),
-        TextAnswer::Refused { refusal, place } => say_refused(refusal, place),
+        TextAnswer::Done { length } => console::write_out(rt, &text[..length]),
+        TextAnswer::Refused { refusal, place } => say_refused(rt, refusal, place),
     }
 }
 
-fn main() {
+fn main(rt: HostRuntime) {
     let mut bytes: [u8; INPUT_SIZE] = [0; INPUT_SIZE];
     let input = console::read_input(
+        &rt,
         &mut bytes,
         b"usage: record_to_text [FILE]\nmakes a text of the record in FILE, or on standard input\n",
     );
@@ -32,5 +35,5 @@ fn main() {
         return;
     }
     let length = input.length;
-    convert(&bytes[..length]);
+    convert(&rt, &bytes[..length]);
 }

@@ -1,3 +1,5 @@
+#![tactic(auto)]
+
 // Makes a record of a text, from a file or from standard input: the record on standard output. A text that is refused is said on standard error.
 
 ghost use Rattle.std.specs.Prelude.{◌≡◌, ◌+◌, length};
@@ -11,30 +13,30 @@ use text_reader::{RecordAnswer, TEXT_SIZE};
 const INPUT_SIZE: usize = TEXT_SIZE + 1;
 
 // Says why the text is bad, and in which line.
-fn say_bad(why: u8, line: usize) {
+fn say_bad(rt: &HostRuntime, why: u8, line: usize) {
     let mut message: [u8; MESSAGE_SIZE] = [0; MESSAGE_SIZE];
     let length = text_messages::bad_text(why, line, &mut message);
-    console::say(&message[..length]);
+    console::say(rt, &message[..length]);
 }
 
 // Says why the record of the text is refused, at which place, and in which line.
-fn say_refused(refusal: u8, place: usize, line: usize) {
+fn say_refused(rt: &HostRuntime, refusal: u8, place: usize, line: usize) {
     let mut message: [u8; MESSAGE_SIZE] = [0; MESSAGE_SIZE];
     let length = text_messages::refused_in(refusal, place, line, &mut message);
-    console::say(&message[..length]);
+    console::say(rt, &message[..length]);
 }
 
-fn convert(text: &[u8]) {
+fn convert(rt: &HostRuntime, text: &[u8]) {
     let mut bytes: [u8; RECORD_SIZE] = [0; RECORD_SIZE];
     let answer = text_reader::to_record(text, &mut bytes);
     match answer {
-        RecordAnswer::Done { length } => console::write_out(&bytes[..length]),
-        RecordAnswer::BadText { why, line } => say_bad(why, line),
+        RecordAnswer::Done { length } => console::write_out(rt, &bytes[..length]),
+        RecordAnswer::BadText { why, line } => say_bad(rt, why, line),
         RecordAnswer::Refused {
             refusal,
             place,
             line,
-        } => say_refused(refusal, place, line),
+        } => say_refused(rt, refusal, place, line),
     }
 }
 
@@ -45,9 +47,10 @@ fn buffer() -> [u8; INPUT_SIZE]
     [0; INPUT_SIZE]
 }
 
-fn main() {
+fn main(rt: HostRuntime) {
     let mut text = buffer();
     let input = console::read_input(
+        &rt,
         &mut text,
         b"usage: text_to_record [FILE]\nmakes a record of the text in FILE, or on standard input\n",
     );
@@ -55,5 +58,5 @@ fn main() {
         return;
     }
     let length = input.length;
-    convert(&text[..length]);
+    convert(&rt, &text[..length]);
 }
