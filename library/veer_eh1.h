@@ -1,5 +1,5 @@
 /* The record player of the VeeR EH1 interrupt reference, as two calls: one gives the player's print of a record, the other its numbers. Link with
-   target/staticlib/libveer_eh1.a, for x86-64 Linux, which `rt staticlib veer_eh1` writes. It needs memcpy and memset of the C library, and nothing else.
+   target/staticlib/libveer_eh1.a, for x86-64 Linux, which `tools/build veer_eh1` writes. It needs memcpy and memset of the C library, and nothing else.
 
    Both calls keep nothing between two calls and use no heap, so they may run in several threads at once, each with arrays of its own. A pointer may be null where
    its length is 0: an empty record, an array with no place. Else it points to as many elements as its length says. What is written to overlaps nothing else that

@@ -1,4 +1,5 @@
 // Lent buffers: what is stored from their start, and how many places two of them both have.
+#![tactic(auto)]
 
 ghost use Rattle.std.specs.Prelude.{◌≡◌};
 ghost use Rattle.buffers.specs.Least.{least};

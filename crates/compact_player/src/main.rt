@@ -1,6 +1,5 @@
-#![tactic(auto)]
-
 // Plays a short record on little memory, from a file or from standard input: the print on standard output.
+#![tactic(auto)]
 
 // One byte more than the longest short record, so that longer input is refused by the questions, as all of it would be.
 const INPUT_SIZE: usize = record::COMPACT_SIZE + 1;

@@ -1,7 +1,6 @@
-#![tactic(auto)]
-
 // What a program reads, whole: the file that its one argument names, or standard input; and what it writes to standard output and standard error.
 // Which bytes the system gives and takes is outside any contract: these say that the count of bytes read lies within the buffer.
+#![tactic(auto)]
 
 ghost use Rattle.std.specs.Prelude.{◌≡◌, ◌+◌, ◌<◌, ◌≤◌, ◌≢◌, ◌↔◌, IsTrue, IsFalse, length, take, drop, slice_index};
 ghost use Rattle.console.specs.Counts.{IsPrefixLen};

@@ -1,4 +1,5 @@
 // The counters beside the controller: the two internal timers and the three error counters together, and their CSRs.
+#![tactic(auto)]
 
 pub mod csrs;
 mod whole;

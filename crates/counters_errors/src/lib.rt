@@ -1,4 +1,5 @@
 // The three error counters: reset values, soundness, what is held of a write, and one error.
+#![tactic(auto)]
 
 mod one;
 mod three;

@@ -1,4 +1,5 @@
 // The two internal timers: reset values, soundness, and one clock.
+#![tactic(auto)]
 
 mod both;
 mod one;

@@ -1,4 +1,5 @@
 // Text and numbers put into a lent buffer, one piece after the other.
+#![tactic(auto)]
 
 ghost use Rattle.std.specs.Prelude.{◌≡◌, ◌+◌, ◌≤◌, ◌<◌, [], ◌∷◌, length, leb};
 ghost use Rattle.std.proofs.lemmas.List.Edits.{sets};

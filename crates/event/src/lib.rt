@@ -1,4 +1,5 @@
 // An event of a record: a head and a value, 32 bits each.
+#![tactic(auto)]
 
 pub mod kinds;
 

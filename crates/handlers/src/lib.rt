@@ -1,4 +1,5 @@
 // The machine: the interrupt controller with the handler service above it, its timers and its error counters.
+#![tactic(auto)]
 
 mod calls;
 mod checking;

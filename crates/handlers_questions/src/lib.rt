@@ -1,4 +1,5 @@
 // Questions 14, 24 and 26, of numbers: what the controller's registers are asked because of the handlers, and what a commit is asked of its number.
+#![tactic(auto)]
 
 ghost use Rattle.std.specs.Prelude.{◌≡◌};
 ghost use Rattle.handlers_questions.specs.Questions.{may_write, may_store, may_commit};

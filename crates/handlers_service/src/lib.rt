@@ -1,5 +1,6 @@
 // The handler service: the mask and the stack of handlers, and what take, open, chain, return, set mask, look and commit do with them. It knows the controller only by
 // its published answers: one look at its sources, its current rank and its number of sources. What an accepted event does with the controller, the machine does.
+#![tactic(auto)]
 
 mod events;
 mod sound;

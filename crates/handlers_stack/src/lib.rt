@@ -1,4 +1,5 @@
 // The stack of handlers: its places, when it is sound, and the current rank that goes with its uppermost handler.
+#![tactic(auto)]
 
 ghost use Rattle.std.specs.Prelude.{◌≡◌, set};
 ghost use Rattle.handlers_stack.specs.Stacks.{blank, handler_sound, handler_at, uppermost_of, handlers_sound, level_of};

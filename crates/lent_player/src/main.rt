@@ -1,6 +1,5 @@
-#![tactic(auto)]
-
 // Plays a record on one machine that is lent for each event: the record from a file or from standard input, and on standard output what the player prints.
+#![tactic(auto)]
 
 ghost use Rattle.std.specs.Prelude.{◌≡◌, ◌≤◌, length};
 ghost use Rattle.buffers.specs.Filled.{filled, HasFirst};

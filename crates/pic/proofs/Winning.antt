@@ -3,7 +3,6 @@ use Rattle.std.proofs.Common.{◌≡◌, ℕ, zero, suc, ◌<◌, ◌≤◌, Boo
 use Rattle.pic.specs.declared.Controller.{Controller}
 use Rattle.pic_source.specs.declared.Rank.{Rank}
 use Rattle.pic_comparator.specs.declared.Winner.{Winner}
-use Rattle.pic_source.specs.Ranks.{rank}
 use Rattle.pic.specs.Sources.{rank_at, enable_at, pending_at, eligible_at, entry_at, winner_to, winner_of, Eligible, Before, IsWinner, is_eligible}
 use Rattle.pic_comparator.specs.Comparator.{no_winner, better_of, Entered}
 use Rattle.pic_comparator.proofs.Comparing.{passes, stays, neutral, entry-eligible, entry-none, entry-entered}

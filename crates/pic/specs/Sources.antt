@@ -1,5 +1,5 @@
 -- Document 01, "Lines, latches, winner", with the ranks of document 02, No. 4.
-use Rattle.std.specs.Prelude.{◌≡◌, ℕ, zero, suc, ◌<◌, ◌≤◌, Bool, true, cond, ◌&&◌, ◌⊎◌, set, ℤ, pos, ◌-ℤ◌, ◌==◌, ◌≢◌, nat_le, nat_lt, slice_index, slice_set}
+use Rattle.std.specs.Prelude.{◌≡◌, ℕ, zero, suc, ◌<◌, ◌≤◌, Bool, true, cond, ◌&&◌, ◌⊎◌, ℤ, pos, ◌-ℤ◌, ◌==◌, ◌≢◌, nat_le, nat_lt, slice_index, slice_set}
 use Rattle.pic.specs.declared.Controller.{Controller}
 use Rattle.pic.specs.declared.Scalars.{Scalars}
 use Rattle.pic_source.specs.declared.Rank.{Rank}

@@ -1,5 +1,6 @@
 // The VeeR EH1 interrupt controller: what it holds, power-on, soundness, winner, margin and capture. Its registers are in the crates above. Every call has an
 // answer for every controller, sound or not.
+#![tactic(auto)]
 
 pub mod calls;
 mod sound;

@@ -1,4 +1,5 @@
 // Words of bits: 32 sources, a bit each.
+#![tactic(auto)]
 
 ghost use Rattle.std.specs.Prelude.{◌≡◌, ◌%◌};
 ghost use Rattle.pic_bits.specs.Bits.{bit_of, lowest_bit};

@@ -1,4 +1,5 @@
 // The comparison that finds the winner: the two-way comparator, and the balanced tree of such comparators.
+#![tactic(auto)]
 
 pub mod trees;
 

@@ -1,4 +1,5 @@
 // The control and status registers: what each reads, what a write changes, and the calls with their questions in order.
+#![tactic(auto)]
 
 ghost use Rattle.std.specs.Prelude.{◌≡◌};
 ghost use Rattle.pic_csrs.specs.Addresses.{csr_at, is_csr};

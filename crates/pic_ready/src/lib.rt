@@ -1,5 +1,5 @@
-#![tactic(auto)]
 // The ready sets of a controller, worked out afresh.
+#![tactic(auto)]
 
 ghost use Rattle.std.specs.Prelude.{◌≡◌};
 ghost use Rattle.pic_ready.specs.Ready.{fresh_of};

@@ -1,4 +1,5 @@
 // Samples of the lines, and loads and stores of the memory-mapped registers.
+#![tactic(auto)]
 
 mod decoding;
 mod samples;

@@ -1,5 +1,5 @@
-#![tactic(auto)]
 // The winner from the ready sets: for each rank 0 to 15 a set of 256 bits, bit y of word x for source 32 x + y.
+#![tactic(auto)]
 
 ghost use Rattle.std.specs.Prelude.{◌≡◌};
 ghost use Rattle.pic_sets_winner.specs.Highest.{lowest_of, is_empty, highest_of};

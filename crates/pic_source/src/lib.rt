@@ -1,4 +1,5 @@
 // One source of interrupts, by its values: its rank and its field, its latch, and whether it is pending.
+#![tactic(auto)]
 
 pub mod ranks;
 pub mod sources;

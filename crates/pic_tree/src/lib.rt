@@ -1,4 +1,5 @@
 // The winner by the balanced tree of comparators, beside the scan of the controller. The player does not use it.
+#![tactic(auto)]
 
 ghost use Rattle.std.specs.Prelude.{◌≡◌};
 ghost use Rattle.pic.specs.Sources.{winner_of};

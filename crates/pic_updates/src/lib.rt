@@ -1,5 +1,5 @@
-#![tactic(auto)]
 // Samples and stores of a controller whose ready sets are lent, and brought up to date.
+#![tactic(auto)]
 
 ghost use Rattle.std.specs.Prelude.{◌≡◌, ◌%◌, ◌/◌, eqb};
 ghost use Rattle.pic_bits.specs.Tables.{Shaped};

@@ -1,4 +1,5 @@
 // Sources a word at a time: the values of the 32 sources of a word, a bit each. Bit y of word x is source 32 x + y.
+#![tactic(auto)]
 
 ghost use Rattle.std.specs.Prelude.{◌≡◌, ◌%◌, ◌/◌, ◌^◌, eqb};
 ghost use Rattle.pic_bits.specs.Bits.{bit_of, has_bit};

@@ -1,4 +1,5 @@
 // The record: sizes, then two arrays, all 32-bit little-endian: event count n, N, n heads, n values.
+#![tactic(auto)]
 
 ghost use Rattle.std.specs.Prelude.{◌≡◌, ◌+◌, ◌*◌, ◌≤◌, length, get_or};
 ghost use Rattle.buffers.specs.Filled.{filled};

@@ -1,4 +1,5 @@
 // A record written and read, and one read and written.
+#![tactic(auto)]
 
 ghost use Rattle.std.specs.Prelude.{◌≡◌, length};
 ghost use Rattle.record.specs.Record.{board};

@@ -1,6 +1,6 @@
+// Makes a text of a record, from a file or from standard input: the text on standard output. A record that is refused is said on standard error.
 #![tactic(auto)]
 
-// Makes a text of a record, from a file or from standard input: the text on standard output. A record that is refused is said on standard error.
 use record::RECORD_SIZE;
 use text_messages::MESSAGE_SIZE;
 use text_writer::{LISTING_SIZE, TextAnswer};

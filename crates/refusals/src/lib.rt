@@ -1,4 +1,5 @@
 // The words of each refusal.
+#![tactic(auto)]
 
 ghost use Rattle.std.specs.Prelude.{◌≡◌, ◌+◌, length, drop};
 ghost use Rattle.digits.specs.Put.{put_at, place_after};

@@ -1,4 +1,5 @@
 // N, the number of sources of a record and of a controller.
+#![tactic(auto)]
 
 ghost use Rattle.std.specs.Prelude.{◌≡◌};
 ghost use Rattle.source_count.specs.Count.{is_count};

@@ -1,6 +1,5 @@
-#![tactic(auto)]
-
 // Makes a record of a text, from a file or from standard input: the record on standard output. A text that is refused is said on standard error.
+#![tactic(auto)]
 
 ghost use Rattle.std.specs.Prelude.{◌≡◌, ◌+◌, length};
 ghost use Rattle.text_reader.specs.Reading.{text_size};

@@ -1,8 +1,4 @@
 use borrow.Author.Rules.{rules}
-use Prim.Native.Nat.{◌≤◌, ◌-◌, ◌+◌}
-use mathlib.Core.Path.{◌≡◌}
-use lib.ListN.{length, take}
-use lib.Seq.{sets}
 use Rattle.digits.proofs.Stores.{copy-turn, copy-end}
 use Rattle.digits.proofs.copy.Goals as goal
 

@@ -1,9 +1,7 @@
-use borrow.Author.Rules.{rules}
 use Prim.Native.Nat.{◌≤◌, ◌-◌, ◌+◌}
 use mathlib.Core.Path.{◌≡◌}
 use lib.ListN.{length, take}
 use lib.Seq.{sets}
-use Rattle.digits.proofs.Stores.{copy-turn, copy-end}
 use Rattle.digits.proofs.copy.Given as goal
 
 abbrev pub invariant-loop-i : goal.invariant-loop-i

@@ -1,7 +1,6 @@
 use borrow.Author.Rules.{rules}
-use Prim.Native.Nat.{◌<◌, ◌-◌}
-use native.Mathlib.Omega.{arith}
-use Rattle.digits.proofs.Digits.{Counted, count-start, count-below, count_turn, count-end}
+use Prim.Native.Nat.{◌<◌}
+use Rattle.digits.proofs.Digits.{count-start, count-below, count_turn, count-end}
 use Rattle.digits.proofs.count_digits.Goals as goal
 
 pub loop-k-init : goal.loop-k-init

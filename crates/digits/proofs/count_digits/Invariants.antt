@@ -1,7 +1,5 @@
-use borrow.Author.Rules.{rules}
 use Prim.Native.Nat.{◌<◌, ◌-◌}
-use native.Mathlib.Omega.{arith}
-use Rattle.digits.proofs.Digits.{Counted, count-start, count-below, count_turn, count-end}
+use Rattle.digits.proofs.Digits.{Counted}
 use Rattle.digits.proofs.count_digits.Given as goal
 
 abbrev pub invariant-loop-k : goal.invariant-loop-k

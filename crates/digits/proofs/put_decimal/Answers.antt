@@ -1,5 +1,3 @@
-use mathlib.Core.Path.{sym, ◌∙◌}
-use borrow.Author.Rules.{rules}
 use Rattle.digits.proofs.Digits.{one-decimal}
 use Rattle.digits.proofs.put_decimal.Goals as goal
 

@@ -1,4 +1,3 @@
-use borrow.Author.Rules.{rules}
 use Rattle.digits.proofs.put_hex.Goals as goal
 
 pub returns : goal.returns

@@ -1,9 +1,4 @@
 use borrow.Author.Rules.{rules}
-use Prim.Native.Nat.{◌<◌, ◌≤◌, ◌+◌}
-use mathlib.Core.Path.{◌≡◌}
-use lib.ListN.{length}
-use lib.Seq.{sets}
-use Rattle.digits.specs.Digits.{digits_to}
 use Rattle.digits.proofs.Digits.{low-remainder, store-turn, store-end}
 use Rattle.digits.proofs.store_digits.Goals as goal
 

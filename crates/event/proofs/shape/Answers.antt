@@ -1,4 +1,3 @@
-use borrow.Author.Rules.{rules}
 use mathlib.Core.Bool.{true, false}
 use Rattle.event.proofs.Laws.{shape-6, shape-kind}
 use Rattle.event.proofs.shape.Goals as goal

@@ -1,9 +1,6 @@
 use Prim.Native.Nat.{◌≤◌, ◌-◌}
-use mathlib.Core.Path.{◌≡◌, refl}
-use native.Mathlib.Omega.{arith}
+use mathlib.Core.Path.{◌≡◌}
 use Rattle.handlers_stack.specs.Stacks.{handlers_sound, below_of}
-use Rattle.handlers_stack.proofs.Stacks.{handlers-turn, below-turn}
-use borrow.Author.Rules.{rules}
 use Rattle.handlers_stack.proofs.handlers_sound.Given as goal
 
 abbrev pub invariant-loop-k : goal.invariant-loop-k

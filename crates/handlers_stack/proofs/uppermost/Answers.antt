@@ -1,4 +1,3 @@
-use borrow.Author.Rules.{rules}
 use Rattle.handlers_stack.proofs.uppermost.Goals as goal
 
 pub returns-then-depth-eq0 : goal.returns-then-depth-eq0

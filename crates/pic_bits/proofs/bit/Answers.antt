@@ -1,6 +1,5 @@
 use Prim.Native.Nat.{◌/◌, ◌%◌, ◌^◌}
 use lib.Bits.{and_mask}
-use borrow.Author.Rules.{rules}
 use Rattle.pic_bits.proofs.bit.Goals as goal
 
 pub returns : goal.returns

@@ -1,6 +1,5 @@
 use borrow.Author.Tests.{not-true, not-false}
 use Rattle.pic_csrs.specs.Calls.{csr_read_of}
-use borrow.Author.Rules.{rules}
 use Rattle.pic_csrs.proofs.csr_read.Goals as goal
 
 pub returns-then-not-is_csr : goal.returns-then-not-is_csr

@@ -3,7 +3,6 @@ use borrow.Author.Tests.{not-true, not-false, eq-eqb, ne_eqb}
 use Rattle.pic.specs.declared.Controller.{Controller}
 use Rattle.pic.specs.Calls.{accepts, capture_of}
 use Rattle.pic_csrs.specs.Calls.{csr_write_of}
-use borrow.Author.Rules.{rules}
 use Rattle.pic_csrs.proofs.csr_write.Goals as goal
 
 pub returns-then-not-is_csr : goal.returns-then-not-is_csr

@@ -1,5 +1,4 @@
 use Rattle.pic_csrs.specs.Values.{csr_written}
-use borrow.Author.Rules.{rules}
 use Rattle.pic_csrs.proofs.csr_written.Goals as goal
 
 pub returns-in-Meivt : goal.returns-in-Meivt

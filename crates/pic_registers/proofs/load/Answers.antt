@@ -1,7 +1,6 @@
 use borrow.Author.Tests.{eq-eqb, ne_eqb}
 use Rattle.pic_registers.specs.Calls.{load_of}
 use Rattle.pic_registers.proofs.Offsets.{register-valid}
-use borrow.Author.Rules.{rules}
 use Rattle.pic_registers.proofs.load.Goals as goal
 
 pub returns-then-q-ne0 : goal.returns-then-q-ne0

@@ -1,6 +1,5 @@
 use borrow.Author.Tests.{ltb-true}
 use Rattle.pic_registers.specs.Registers.{read_of}
-use borrow.Author.Rules.{rules}
 use Rattle.pic_registers.proofs.read.Goals as goal
 
 pub pending_word-requires : goal.pending_word-requires

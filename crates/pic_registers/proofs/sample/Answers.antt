@@ -5,7 +5,6 @@ use borrow.Author.Tests.{le-leb, lt-leb}
 use Rattle.pic.specs.declared.Controller.{Controller}
 use Rattle.pic.specs.Calls.{accepts}
 use Rattle.pic_registers.specs.Calls.{sample_of}
-use borrow.Author.Rules.{rules}
 use Rattle.pic_registers.proofs.sample.Goals as goal
 
 pub returns-then-x-gt7 : goal.returns-then-x-gt7

@@ -5,7 +5,6 @@ use Rattle.pic.specs.Calls.{accepts}
 use Rattle.pic_registers.specs.declared.Register.{Register}
 use Rattle.pic_registers.specs.Registers.{written_of}
 use Rattle.pic_registers.specs.Calls.{store_of}
-use borrow.Author.Rules.{rules}
 use Rattle.pic_registers.proofs.store.Goals as goal
 
 pub returns-then-q-ne0 : goal.returns-then-q-ne0

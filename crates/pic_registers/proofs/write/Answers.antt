@@ -1,5 +1,4 @@
 use Rattle.pic_registers.specs.Registers.{written_of}
-use borrow.Author.Rules.{rules}
 use Rattle.pic_registers.proofs.write.Goals as goal
 
 pub returns-in-Meipl : goal.returns-in-Meipl

@@ -1,5 +1,4 @@
 use mathlib.Core.Path.{ap}
-use borrow.Author.Rules.{rules}
 use Rattle.pic_source.specs.declared.Rank.{Rank}
 use Rattle.pic_tree.proofs.entering_rank.Goals as goal
 

@@ -1,10 +1,7 @@
 use Prim.Native.Nat.{◌≤◌, ◌-◌}
 use mathlib.Core.Path.{◌≡◌}
-use native.Mathlib.Omega.{arith}
 use lib.ListN.{length}
-use borrow.Author.Rules.{rules}
 use Rattle.pic_tree.specs.Tree.{Entering}
-use Rattle.pic_tree.proofs.Entered.{turn}
 use Rattle.pic_tree.proofs.entering_ranks.Given as goal
 
 abbrev pub invariant-loop-s : goal.invariant-loop-s

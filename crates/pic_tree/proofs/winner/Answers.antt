@@ -1,5 +1,4 @@
 use mathlib.Core.Path.{◌∙◌}
-use borrow.Author.Rules.{rules}
 use Rattle.pic_tree.proofs.Entered.{tree-of-ranks, tree-winner}
 use Rattle.pic_tree.proofs.winner.Goals as goal
 

@@ -1,7 +1,6 @@
 use Prim.Native.Nat.{◌%◌}
 use native.Mathlib.Omega.{arith}
 use Rattle.pic_bits.proofs.Bits.{one_shifted}
-use borrow.Author.Rules.{rules}
 use Rattle.pic_words.proofs.only.Goals as goal
 
 pub returns : goal.returns

@@ -1,7 +1,6 @@
 use Prim.Native.Nat.{◌+◌, ◌-◌, ◌*◌, ◌%◌, ◌^◌, ◌≤◌}
 use native.Mathlib.Omega.{arith}
 use Rattle.pic_words.proofs.SourceBits.{bits_none, bits-all, bits-some, bits_fit}
-use borrow.Author.Rules.{rules}
 use Rattle.pic_words.proofs.source_bits.Goals as goal
 
 abbrev Last : Type 0

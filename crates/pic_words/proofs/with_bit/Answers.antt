@@ -1,7 +1,6 @@
 use native.Mathlib.Omega.{arith}
 use Prim.Native.Nat.{◌%◌}
 use Rattle.pic_words.proofs.Put.{with-bit-is, one-fits}
-use borrow.Author.Rules.{rules}
 use Rattle.pic_words.proofs.with_bit.Goals as goal
 
 pub overflow_mul-b : goal.overflow_mul-b

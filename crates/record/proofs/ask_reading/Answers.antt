@@ -1,4 +1,3 @@
-use borrow.Author.Rules.{rules}
 use mathlib.Core.Path.{◌∙◌}
 use Rattle.record.proofs.Questions.{read-no-1, read-no-sizes, read-no-4, read-no-5, read_walk}
 use Rattle.record.proofs.ask_reading.Goals as goal

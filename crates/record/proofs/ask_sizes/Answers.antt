@@ -1,4 +1,3 @@
-use borrow.Author.Rules.{rules}
 use Rattle.record.proofs.Questions.{answered-no, sizes-no-2, sizes-no-22, sizes-no-3, sizes-no-23, sizes-none}
 use Rattle.record.proofs.ask_sizes.Goals as goal
 

@@ -1,4 +1,3 @@
-use borrow.Author.Rules.{rules}
 use Rattle.record.proofs.read_compact.Goals as goal
 
 pub returns : goal.returns

@@ -1,9 +1,4 @@
 use borrow.Author.Rules.{rules}
-use Prim.Native.Nat.{◌≤◌, ◌-◌, ◌+◌, ◌*◌}
-use mathlib.Core.Path.{◌≡◌}
-use lib.ListN.{length, take, drop}
-use lib.Seq.{sets}
-use Rattle.record.specs.Words.{words_of}
 use Rattle.record.proofs.Words.{words-turn, words-end}
 use Rattle.record.proofs.read_words.Goals as goal
 

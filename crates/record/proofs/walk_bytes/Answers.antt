@@ -1,10 +1,6 @@
 use borrow.Author.Rules.{rules}
-use Prim.Native.Nat.{◌≤◌, ◌-◌, ◌+◌}
-use mathlib.Core.Path.{◌≡◌, ◌∙◌, sym}
-use lib.ListN.{length, drop}
+use mathlib.Core.Path.{◌∙◌, sym}
 use Rattle.event.specs.Event.{shape_of}
-use Rattle.record.specs.Record.{words_from, length_of}
-use Rattle.record.specs.Questions.{walk, walk_from}
 use Rattle.record.proofs.Walk.{walk_none, walk-past, walk-stop, equally-many, in-heads, past-heads, check-there}
 use Rattle.record.proofs.walk_bytes.Goals as goal
 

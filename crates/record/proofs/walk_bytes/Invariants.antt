@@ -1,11 +1,9 @@
-use borrow.Author.Rules.{rules}
 use Prim.Native.Nat.{◌≤◌, ◌-◌, ◌+◌}
-use mathlib.Core.Path.{◌≡◌, ◌∙◌, sym}
+use mathlib.Core.Path.{◌≡◌}
 use lib.ListN.{length, drop}
 use Rattle.event.specs.Event.{shape_of}
 use Rattle.record.specs.Record.{words_from, length_of}
 use Rattle.record.specs.Questions.{walk, walk_from}
-use Rattle.record.proofs.Walk.{walk_none, walk-past, walk-stop, equally-many, in-heads, past-heads, check-there}
 use Rattle.record.proofs.walk_bytes.Given as goal
 
 abbrev pub invariant-loop-i : goal.invariant-loop-i

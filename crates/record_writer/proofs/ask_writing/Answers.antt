@@ -1,4 +1,3 @@
-use borrow.Author.Rules.{rules}
 use mathlib.Core.Path.{◌∙◌}
 use Rattle.record.proofs.Questions.{answered-no}
 use Rattle.record_writer.proofs.Answers.{write-no-2, write-no-3, write-no-4, write-no-5, write-walk}

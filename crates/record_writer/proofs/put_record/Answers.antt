@@ -1,4 +1,3 @@
-use borrow.Author.Rules.{rules}
 use Rattle.record_writer.proofs.Stores.{record-stored}
 use Rattle.record_writer.proofs.put_record.Goals as goal
 

@@ -1,8 +1,7 @@
 use borrow.Author.Rules.{rules}
-use Prim.Native.Nat.{◌≤◌, ◌-◌, ◌+◌, ◌*◌}
 use mathlib.Core.Path.{◌≡◌, ◌∙◌}
-use lib.ListN.{length, take}
-use lib.Seq.{take_all, sets}
+use lib.ListN.{take}
+use lib.Seq.{take_all}
 use Rattle.record.specs.Words.{bytes_of_words}
 use Rattle.record_writer.proofs.Stores.{bytes-turn}
 use Rattle.record_writer.proofs.put_words.Goals as goal

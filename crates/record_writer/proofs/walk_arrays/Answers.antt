@@ -1,8 +1,6 @@
 use borrow.Author.Rules.{rules}
-use Prim.Native.Nat.{◌≤◌, ◌-◌}
-use mathlib.Core.Path.{◌≡◌, ◌∙◌, sym}
-use lib.ListN.{length, drop}
-use Rattle.record.specs.Questions.{write_shape_of, walk, walk_from}
+use mathlib.Core.Path.{◌∙◌, sym}
+use Rattle.record.specs.Questions.{write_shape_of}
 use Rattle.record.proofs.Walk.{walk_none, walk-past, walk-stop}
 use Rattle.record_writer.proofs.walk_arrays.Goals as goal
 

@@ -1,9 +1,7 @@
-use borrow.Author.Rules.{rules}
 use Prim.Native.Nat.{◌≤◌, ◌-◌}
-use mathlib.Core.Path.{◌≡◌, ◌∙◌, sym}
+use mathlib.Core.Path.{◌≡◌}
 use lib.ListN.{length, drop}
 use Rattle.record.specs.Questions.{write_shape_of, walk, walk_from}
-use Rattle.record.proofs.Walk.{walk_none, walk-past, walk-stop}
 use Rattle.record_writer.proofs.walk_arrays.Given as goal
 
 abbrev pub invariant-loop-i : goal.invariant-loop-i

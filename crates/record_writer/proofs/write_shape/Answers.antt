@@ -1,4 +1,3 @@
-use borrow.Author.Rules.{rules}
 use mathlib.Core.Path.{◌∙◌, sym}
 use Rattle.record.proofs.Retired.{of-six, of-retired, of_other}
 use Rattle.record_writer.proofs.write_shape.Goals as goal

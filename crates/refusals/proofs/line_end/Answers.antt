@@ -1,7 +1,3 @@
-use Prim.Native.Nat.{◌+◌, ◌-◌}
-use mathlib.Core.Path.{◌≡◌}
-use lib.ListN.{length, drop}
-use Rattle.refusals.specs.Lines.{first_line}
 use borrow.Author.Tests.{ne_eqb}
 use Rattle.refusals.proofs.Lines.{end-here, end-end, end-turn}
 use borrow.Author.Rules.{rules}

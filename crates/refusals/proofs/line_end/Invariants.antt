@@ -2,9 +2,6 @@ use Prim.Native.Nat.{◌+◌, ◌-◌}
 use mathlib.Core.Path.{◌≡◌}
 use lib.ListN.{length, drop}
 use Rattle.refusals.specs.Lines.{first_line}
-use borrow.Author.Tests.{ne_eqb}
-use Rattle.refusals.proofs.Lines.{end-here, end-end, end-turn}
-use borrow.Author.Rules.{rules}
 use Rattle.refusals.proofs.line_end.Given as goal
 
 abbrev pub invariant-loop-i : goal.invariant-loop-i

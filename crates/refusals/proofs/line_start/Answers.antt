@@ -1,7 +1,3 @@
-use Prim.Native.Nat.{◌+◌, ◌-◌}
-use mathlib.Core.Path.{◌≡◌}
-use lib.ListN.{length, drop}
-use Rattle.refusals.specs.Lines.{start_of}
 use Rattle.refusals.proofs.Lines.{start-here, start-end, start-turn}
 use borrow.Author.Rules.{rules}
 use Rattle.refusals.proofs.line_start.Goals as goal

@@ -1,5 +1,4 @@
 use Rattle.refusals.proofs.Lines.{line-part}
-use borrow.Author.Rules.{rules}
 use Rattle.refusals.proofs.put_line.Goals as goal
 
 pub slice_bounds-put_text-end : goal.slice_bounds-put_text-end

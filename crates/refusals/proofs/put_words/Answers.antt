@@ -1,7 +1,6 @@
 use Rattle.digits.specs.Ascii.{ascii}
 use Rattle.refusals.specs.Words.{refusal_rows}
 use Rattle.refusals.proofs.Words.{line-words}
-use borrow.Author.Rules.{rules}
 use Rattle.refusals.proofs.put_words.Goals as goal
 
 pub returns : goal.returns

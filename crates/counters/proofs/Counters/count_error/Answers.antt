@@ -1,4 +1,3 @@
-use borrow.Author.Rules.{rules}
 use Rattle.counters.proofs.Counters.count_error.Goals as goal
 
 pub returns : goal.returns

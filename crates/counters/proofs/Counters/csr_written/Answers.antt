@@ -1,5 +1,4 @@
 use Rattle.counters.specs.Csrs.{csr_written}
-use borrow.Author.Rules.{rules}
 use Rattle.counters.proofs.Counters.csr_written.Goals as goal
 
 pub returns-in-Mitcnt : goal.returns-in-Mitcnt

@@ -1,5 +1,4 @@
 use Rattle.counters.specs.Whole.{sound_of}
-use borrow.Author.Rules.{rules}
 use Rattle.counters.proofs.Counters.is_sound.Goals as goal
 
 pub returns : goal.returns

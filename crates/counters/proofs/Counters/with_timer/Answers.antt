@@ -1,4 +1,3 @@
-use borrow.Author.Rules.{rules}
 use Rattle.counters.proofs.Counters.with_timer.Goals as goal
 
 pub returns : goal.returns

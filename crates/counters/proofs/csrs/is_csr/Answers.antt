@@ -1,4 +1,3 @@
-use borrow.Author.Rules.{rules}
 use Rattle.counters.proofs.csrs.is_csr.Goals as goal
 
 pub returns-in-Mitcnt : goal.returns-in-Mitcnt

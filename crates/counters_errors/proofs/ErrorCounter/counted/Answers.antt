@@ -1,5 +1,4 @@
 use Rattle.counters_errors.specs.Errors.{counted}
-use borrow.Author.Rules.{rules}
 use Rattle.counters_errors.proofs.ErrorCounter.counted.Goals as goal
 
 pub returns : goal.returns

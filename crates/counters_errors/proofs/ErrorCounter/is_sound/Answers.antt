@@ -1,5 +1,4 @@
 use Rattle.counters_errors.specs.Errors.{error_sound}
-use borrow.Author.Rules.{rules}
 use Rattle.counters_errors.proofs.ErrorCounter.is_sound.Goals as goal
 
 pub returns : goal.returns

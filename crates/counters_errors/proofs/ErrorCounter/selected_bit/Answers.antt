@@ -1,5 +1,4 @@
 use Rattle.counters_errors.specs.Errors.{selected_bit}
-use borrow.Author.Rules.{rules}
 use Rattle.counters_errors.proofs.ErrorCounter.selected_bit.Goals as goal
 
 pub returns : goal.returns

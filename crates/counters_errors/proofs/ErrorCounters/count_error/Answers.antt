@@ -1,6 +1,5 @@
 use borrow.Author.Tests.{le-leb, lt-leb}
 use Rattle.counters_errors.specs.Errors.{error_of}
-use borrow.Author.Rules.{rules}
 use Rattle.counters_errors.proofs.ErrorCounters.count_error.Goals as goal
 
 pub returns-then-address-gt2 : goal.returns-then-address-gt2

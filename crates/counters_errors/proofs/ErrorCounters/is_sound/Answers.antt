@@ -1,5 +1,4 @@
 use Rattle.counters_errors.specs.Errors.{errors_sound}
-use borrow.Author.Rules.{rules}
 use Rattle.counters_errors.proofs.ErrorCounters.is_sound.Goals as goal
 
 pub returns : goal.returns

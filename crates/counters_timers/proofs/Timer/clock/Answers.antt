@@ -1,4 +1,3 @@
-use borrow.Author.Rules.{rules}
 use Rattle.counters_timers.proofs.Timer.clock.Goals as goal
 
 pub returns : goal.returns

@@ -1,5 +1,4 @@
 use Rattle.counters_timers.specs.Timers.{timers_sound}
-use borrow.Author.Rules.{rules}
 use Rattle.counters_timers.proofs.Timers.is_sound.Goals as goal
 
 pub returns : goal.returns

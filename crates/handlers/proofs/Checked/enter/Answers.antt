@@ -1,6 +1,5 @@
 use mathlib.Core.Path.{sym, ◌∙◌}
 use Rattle.handlers.specs.Checked.{enter_of}
-use borrow.Author.Rules.{rules}
 use Rattle.handlers.proofs.Checked.enter.Goals as goal
 
 pub returns-then-is_sound : goal.returns-then-is_sound

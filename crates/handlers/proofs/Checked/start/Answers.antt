@@ -1,5 +1,4 @@
 use Rattle.handlers.specs.Checked.{start_of}
-use borrow.Author.Rules.{rules}
 use Rattle.handlers.proofs.Checked.start.Goals as goal
 
 pub returns : goal.returns

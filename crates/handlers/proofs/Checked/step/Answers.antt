@@ -1,5 +1,4 @@
 use Rattle.handlers.specs.Checked.{checked_step_of}
-use borrow.Author.Rules.{rules}
 use Rattle.handlers.proofs.Checked.step.Goals as goal
 
 pub returns : goal.returns

@@ -1,6 +1,5 @@
 use Rattle.handlers.specs.Service.{may_write, controller_write}
 use Rattle.handlers.proofs.Answers.{answered-no, answered-yes}
-use borrow.Author.Rules.{rules}
 use Rattle.handlers.proofs.Machine.controller_write.Goals as goal
 
 pub returns-then-not-may_write : goal.returns-then-not-may_write

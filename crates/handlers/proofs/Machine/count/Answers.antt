@@ -1,4 +1,3 @@
-use borrow.Author.Rules.{rules}
 use Rattle.handlers.proofs.Machine.count.Goals as goal
 
 pub returns : goal.returns

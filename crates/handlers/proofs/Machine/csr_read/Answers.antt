@@ -1,6 +1,5 @@
 use Rattle.handlers.specs.Calls.{csr_read_of}
 use Rattle.handlers.proofs.Answers.{unsound, is-sound}
-use borrow.Author.Rules.{rules}
 use Rattle.handlers.proofs.Machine.csr_read.Goals as goal
 
 pub returns-then-not-is_sound : goal.returns-then-not-is_sound

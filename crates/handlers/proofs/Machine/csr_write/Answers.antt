@@ -1,6 +1,5 @@
 use Rattle.handlers.specs.Calls.{csr_write_of}
 use Rattle.handlers.proofs.Answers.{unsound, is-sound}
-use borrow.Author.Rules.{rules}
 use Rattle.handlers.proofs.Machine.csr_write.Goals as goal
 
 pub returns-then-not-is_sound : goal.returns-then-not-is_sound

@@ -1,5 +1,4 @@
 use Rattle.handlers.specs.Service.{csr_write_event}
-use borrow.Author.Rules.{rules}
 use Rattle.handlers.proofs.Machine.csr_write_event.Goals as goal
 
 pub returns-then-is_csr : goal.returns-then-is_csr

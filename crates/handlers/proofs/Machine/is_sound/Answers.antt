@@ -1,5 +1,4 @@
 use Rattle.handlers.specs.Machines.{sound_of}
-use borrow.Author.Rules.{rules}
 use Rattle.handlers.proofs.Machine.is_sound.Goals as goal
 
 pub returns : goal.returns

@@ -1,6 +1,5 @@
 use Rattle.handlers.specs.Calls.{load_of}
 use Rattle.handlers.proofs.Answers.{unsound, is-sound}
-use borrow.Author.Rules.{rules}
 use Rattle.handlers.proofs.Machine.load.Goals as goal
 
 pub returns-then-not-is_sound : goal.returns-then-not-is_sound

@@ -1,5 +1,4 @@
 use Rattle.handlers.specs.Service.{load_event}
-use borrow.Author.Rules.{rules}
 use Rattle.handlers.proofs.Machine.load_event.Goals as goal
 
 pub returns : goal.returns

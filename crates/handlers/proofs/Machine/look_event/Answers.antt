@@ -1,5 +1,4 @@
 use Rattle.handlers.specs.Service.{look_event}
-use borrow.Author.Rules.{rules}
 use Rattle.handlers.proofs.Machine.look_event.Goals as goal
 
 pub returns : goal.returns

@@ -1,5 +1,4 @@
 use Rattle.handlers.specs.Service.{open_event}
-use borrow.Author.Rules.{rules}
 use Rattle.handlers.proofs.Machine.open_event.Goals as goal
 
 pub returns : goal.returns

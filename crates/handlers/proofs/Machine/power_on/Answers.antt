@@ -1,5 +1,4 @@
 use Rattle.handlers.specs.Machines.{power_on_of}
-use borrow.Author.Rules.{rules}
 use Rattle.handlers.proofs.Machine.power_on.Goals as goal
 
 pub returns : goal.returns

@@ -1,5 +1,4 @@
 use Rattle.handlers.specs.Service.{return_event}
-use borrow.Author.Rules.{rules}
 use Rattle.handlers.proofs.Machine.return_event.Goals as goal
 
 pub returns : goal.returns

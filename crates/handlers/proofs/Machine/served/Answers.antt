@@ -1,5 +1,4 @@
 use borrow.Author.Tests.{eq-eqb, ne_eqb}
-use borrow.Author.Rules.{rules}
 use Rattle.handlers.proofs.Machine.served.Goals as goal
 
 pub returns-then-out-ne0 : goal.returns-then-out-ne0

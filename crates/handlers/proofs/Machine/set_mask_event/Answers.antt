@@ -1,5 +1,4 @@
 use Rattle.handlers.specs.Service.{set_mask_event}
-use borrow.Author.Rules.{rules}
 use Rattle.handlers.proofs.Machine.set_mask_event.Goals as goal
 
 pub returns : goal.returns

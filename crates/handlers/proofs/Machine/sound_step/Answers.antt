@@ -1,6 +1,5 @@
 use borrow.Author.Tests.{eq-eqb, ne_eqb}
 use Rattle.handlers.specs.Service.{event_of, sound_step_of}
-use borrow.Author.Rules.{rules}
 use Rattle.handlers.proofs.Machine.sound_step.Goals as goal
 
 pub returns-then-q-ne0 : goal.returns-then-q-ne0

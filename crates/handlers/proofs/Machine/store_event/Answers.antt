@@ -1,7 +1,6 @@
 use mathlib.Core.Path.{◌≡◌}
 use Rattle.handlers.specs.Service.{may_store, store_event}
 use Rattle.handlers.proofs.Answers.{answered-no, answered-yes}
-use borrow.Author.Rules.{rules}
 use Rattle.handlers.proofs.Machine.store_event.Goals as goal
 use Rattle.handlers.proofs.Machine.store_event.Goals.{After-may_store}
 

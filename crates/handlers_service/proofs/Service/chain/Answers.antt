@@ -1,6 +1,5 @@
 use Rattle.handlers_service.specs.Events.{chain_of}
 use Rattle.handlers_service.proofs.Answers.{handler-no, handler-yes}
-use Rattle.std.proofs.Common.{rules}
 use Rattle.handlers_service.proofs.Service.chain.Goals as goal
 
 pub returns-then-q-ne0 : goal.returns-then-q-ne0

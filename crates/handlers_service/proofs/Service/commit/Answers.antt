@@ -1,4 +1,4 @@
-use Rattle.std.proofs.Common.{◌≡◌, ◌∙◌, rules}
+use Rattle.std.proofs.Common.{◌≡◌, ◌∙◌}
 use borrow.Author.Tests.{not-true, not-false}
 use Rattle.handlers_questions.specs.Questions.{may_commit}
 use Rattle.handlers_service.specs.Events.{next_source, commit_of}

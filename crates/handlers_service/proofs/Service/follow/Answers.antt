@@ -1,4 +1,4 @@
-use Rattle.std.proofs.Common.{◌≡◌, rules}
+use Rattle.std.proofs.Common.{◌≡◌}
 use Rattle.handlers_service.specs.Events.{serves}
 use Rattle.handlers_service.proofs.Answers.{serves-asked}
 use Rattle.handlers_service.proofs.Service.follow.Goals as goal

@@ -1,5 +1,4 @@
-use Rattle.std.proofs.Common.{◌≡◌, length, sym, ◌∙◌, rules, eq-eqb}
-use lib.ListN.{length-map}
+use Rattle.std.proofs.Common.{◌≡◌, length, rules, eq-eqb}
 use Rattle.handlers_service.specs.Sound.{sound_of}
 use Rattle.handlers_service.proofs.Service.is_sound.Goals as goal
 

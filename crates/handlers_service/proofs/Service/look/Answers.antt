@@ -1,6 +1,5 @@
 use Rattle.handlers_service.specs.Events.{look_of}
 use Rattle.handlers_service.proofs.Answers.{handler-no, handler-yes}
-use Rattle.std.proofs.Common.{rules}
 use Rattle.handlers_service.proofs.Service.look.Goals as goal
 
 pub returns-then-q-ne0 : goal.returns-then-q-ne0

@@ -1,4 +1,4 @@
-use Rattle.std.proofs.Common.{rules, le-ltb, lt-ltb, eq-eqb, ne_eqb}
+use Rattle.std.proofs.Common.{le-ltb, lt-ltb, eq-eqb, ne_eqb}
 use Rattle.handlers_service.specs.Events.{open_of}
 use Rattle.handlers_service.proofs.Answers.{zero-most, some}
 use Rattle.handlers_service.proofs.Service.open.Goals as goal

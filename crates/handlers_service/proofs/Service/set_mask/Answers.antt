@@ -1,4 +1,4 @@
-use Rattle.std.proofs.Common.{◌||◌, eqb, rules, le-leb}
+use Rattle.std.proofs.Common.{◌||◌, eqb, le-leb}
 use borrow.Author.Tests.{lt-leb, not-true, not-false}
 use Rattle.handlers_service.specs.Events.{set_mask_of}
 use Rattle.handlers_service.proofs.Service.set_mask.Goals as goal

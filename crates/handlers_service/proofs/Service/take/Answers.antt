@@ -1,4 +1,4 @@
-use Rattle.std.proofs.Common.{◌≡◌, true, false, pos, sym, ap, ◌∙◌, to_z-of_z, w32, rules, eq-eqb, ne_eqb}
+use Rattle.std.proofs.Common.{◌≡◌, pos, sym, ap, ◌∙◌, to_z-of_z, w32, rules, eq-eqb, ne_eqb}
 use lib.Signed.{lt_z}
 use borrow.Author.Tests.{not-true, not-false}
 use Rattle.handlers_service.specs.Events.{take_of}

@@ -1,4 +1,3 @@
-use Rattle.std.proofs.Common.{rules}
 use Rattle.handlers_service.proofs.Service.with_uppermost.Goals as goal
 
 pub returns : goal.returns

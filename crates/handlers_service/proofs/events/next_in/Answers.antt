@@ -1,4 +1,3 @@
-use Rattle.std.proofs.Common.{rules}
 use Rattle.handlers_service.proofs.events.next_in.Goals as goal
 
 pub returns-then-serves_in : goal.returns-then-serves_in

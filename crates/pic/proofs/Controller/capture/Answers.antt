@@ -1,4 +1,3 @@
-use Rattle.std.proofs.Common.{rules}
 use Rattle.pic.specs.Calls.{capture_of}
 use Rattle.pic.proofs.Controller.capture.Goals as goal
 

@@ -1,4 +1,3 @@
-use Rattle.std.proofs.Common.{rules}
 use Rattle.pic.specs.Calls.{current_rank}
 use Rattle.pic.proofs.Controller.current_rank.Goals as goal
 

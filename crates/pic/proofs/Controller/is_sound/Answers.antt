@@ -1,4 +1,4 @@
-use Rattle.std.proofs.Common.{◌^◌, ◌<◌, length, rules}
+use Rattle.std.proofs.Common.{rules}
 use Rattle.pic.proofs.Calling.{sound-tested}
 use Rattle.pic.proofs.Controller.is_sound.Goals as goal
 

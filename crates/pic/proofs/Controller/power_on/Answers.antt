@@ -1,4 +1,4 @@
-use Rattle.std.proofs.Common.{◌≡◌, true, leb, sym, ◌∙◌, arith, rules, leb-true}
+use Rattle.std.proofs.Common.{◌≡◌, true, leb, sym, ◌∙◌, arith, leb-true}
 use Rattle.source_count.specs.Count.{most_sources, is_count}
 use Rattle.pic.specs.Calls.{power_on_of}
 use Rattle.pic_source.proofs.Bools.{and_parts}

@@ -1,4 +1,3 @@
-use Rattle.std.proofs.Common.{rules}
 use Rattle.pic.specs.Calls.{set_current}
 use Rattle.pic.proofs.Controller.set_current.Goals as goal
 

@@ -1,4 +1,4 @@
-use Rattle.std.proofs.Common.{◌≡◌, ◌-◌, ◌<◌, ◌≤◌, arith, rules}
+use Rattle.std.proofs.Common.{◌≡◌, arith, rules}
 use Rattle.pic.specs.Sound.{sources_sound}
 use Rattle.pic.proofs.Turns.{sources-turn}
 use Rattle.pic.proofs.Controller.sources_sound.Goals as goal

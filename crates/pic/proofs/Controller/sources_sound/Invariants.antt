@@ -1,6 +1,5 @@
-use Rattle.std.proofs.Common.{◌≡◌, ◌-◌, ◌<◌, ◌≤◌, arith, rules}
+use Rattle.std.proofs.Common.{◌≡◌, ◌-◌, ◌<◌, ◌≤◌}
 use Rattle.pic.specs.Sound.{sources_sound}
-use Rattle.pic.proofs.Turns.{sources-turn}
 use Rattle.pic.proofs.Controller.sources_sound.Given as goal
 
 abbrev pub invariant-loop-s : goal.invariant-loop-s

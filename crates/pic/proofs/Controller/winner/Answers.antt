@@ -1,4 +1,4 @@
-use Rattle.std.proofs.Common.{◌≡◌, ◌-◌, ◌<◌, ◌≤◌, arith, rules}
+use Rattle.std.proofs.Common.{◌≡◌, arith, rules}
 use Rattle.pic.specs.Sources.{winner_to}
 use Rattle.pic.proofs.Turns.{winner-turn, winner-stays}
 use Rattle.pic.proofs.Controller.winner.Goals as goal

@@ -1,6 +1,5 @@
-use Rattle.std.proofs.Common.{◌≡◌, ◌-◌, ◌<◌, ◌≤◌, arith, rules}
+use Rattle.std.proofs.Common.{◌≡◌, ◌-◌, ◌<◌, ◌≤◌}
 use Rattle.pic.specs.Sources.{winner_to}
-use Rattle.pic.proofs.Turns.{winner-turn, winner-stays}
 use Rattle.pic.proofs.Controller.winner.Given as goal
 
 abbrev pub invariant-loop-s : goal.invariant-loop-s

@@ -1,5 +1,4 @@
 use Rattle.pic.specs.Calls.{meihap_of}
-use Rattle.std.proofs.Common.{rules}
 use Rattle.pic.proofs.calls.meihap.Goals as goal
 
 pub returns : goal.returns

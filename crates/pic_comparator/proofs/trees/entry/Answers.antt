@@ -1,5 +1,4 @@
 use mathlib.Core.Path.{◌∙◌}
-use borrow.Author.Rules.{rules}
 use Rattle.pic_comparator.proofs.Comparing.{enters_none, enters-ranked}
 use Rattle.pic_comparator.proofs.trees.entry.Goals as goal
 

@@ -4,7 +4,6 @@ use native.Mathlib.Omega.{arith}
 use borrow.Author.Tests.{eq-eqb, ne_eqb, lt-ltb, le-ltb}
 use Rattle.pic_registers.specs.Offsets.{page_register}
 use Rattle.pic_source.proofs.Ranges.{source-range}
-use borrow.Author.Rules.{rules}
 use Rattle.pic_registers.proofs.decoding.register_at.Goals as goal
 
 pub returns-then-i-lt8 : goal.returns-then-i-lt8

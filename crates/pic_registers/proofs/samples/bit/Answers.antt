@@ -1,7 +1,6 @@
 use Prim.Native.Nat.{◌/◌, ◌^◌}
 use native.Mathlib.Omega.{arith}
 use lib.Bits.{and_mask, and_le_r}
-use borrow.Author.Rules.{rules}
 use Rattle.pic_registers.proofs.samples.bit.Goals as goal
 
 pub overflow_cast-result : goal.overflow_cast-result

@@ -1,6 +1,5 @@
 use Rattle.pic_bits.specs.Bits.{join_of}
 use Rattle.pic_bits.proofs.Words.{join-set}
-use borrow.Author.Rules.{rules}
 use Rattle.pic_registers.proofs.samples.join.Goals as goal
 
 pub returns-then-on : goal.returns-then-on

@@ -1,11 +1,7 @@
 use Prim.Native.Nat.{◌≤◌, ◌<◌, ◌-◌, ◌^◌}
 use mathlib.Core.Path.{◌≡◌}
-use native.Mathlib.Omega.{arith}
 use Rattle.pic_bits.specs.Bits.{word_to}
 use Rattle.pic_registers.specs.Registers.{pending_bit}
-use Rattle.pic_bits.proofs.Words.{join-lt}
-use Rattle.pic_registers.proofs.Turns.{pending-turn}
-use borrow.Author.Rules.{rules}
 use Rattle.pic_registers.proofs.samples.pending_word.Given as goal
 
 abbrev pub invariant-loop-y : goal.invariant-loop-y

@@ -1,8 +1,6 @@
 use Prim.Native.Nat.{◌≤◌, ◌-◌}
-use mathlib.Core.Path.{◌≡◌, ap, ◌∙◌}
-use native.Mathlib.Omega.{arith}
-use Rattle.pic_registers.proofs.Turns.{sampled_to, sample-start, sample_in, sample_out}
-use borrow.Author.Rules.{rules}
+use mathlib.Core.Path.{◌≡◌}
+use Rattle.pic_registers.proofs.Turns.{sampled_to}
 use Rattle.pic_registers.proofs.samples.take_lines.Given as goal
 
 abbrev pub invariant-loop-y : goal.invariant-loop-y

@@ -1,5 +1,4 @@
 use Rattle.pic_registers.specs.Registers.{written_of}
-use borrow.Author.Rules.{rules}
 use Rattle.pic_registers.proofs.values.clear_latch.Goals as goal
 
 pub returns : goal.returns

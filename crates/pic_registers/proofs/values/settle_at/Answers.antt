@@ -1,4 +1,3 @@
-use borrow.Author.Rules.{rules}
 use Rattle.pic_registers.proofs.values.settle_at.Goals as goal
 
 pub returns : goal.returns

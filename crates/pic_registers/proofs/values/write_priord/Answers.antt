@@ -1,6 +1,5 @@
 use mathlib.Core.Path.{refl}
 use Rattle.pic_registers.specs.Registers.{written_of}
-use borrow.Author.Rules.{rules}
 use Rattle.pic_registers.proofs.values.write_priord.Goals as goal
 
 pub returns : goal.returns

@@ -1,4 +1,3 @@
-use borrow.Author.Rules.{rules}
 use Rattle.pic_source.proofs.ranks.to_field.Goals as goal
 
 pub returns : goal.returns

@@ -1,4 +1,3 @@
-use borrow.Author.Rules.{rules}
 use Rattle.pic_source.proofs.ranks.to_rank.Goals as goal
 
 pub returns : goal.returns

@@ -1,4 +1,3 @@
-use borrow.Author.Rules.{rules}
 use Rattle.pic_source.proofs.sources.waiting.Goals as goal
 
 pub returns : goal.returns
