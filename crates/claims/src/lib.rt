@@ -1,4 +1,5 @@
 // Lists of events played from power-on, under the claim of nested handlers.
+#![tactic(auto)]
 
 ghost use Rattle.std.specs.Prelude.{◌≡◌, length, take};
 ghost use Rattle.buffers.specs.Filled.{filled};

@@ -1,4 +1,5 @@
 // The bench's form of an event: one machine is lent, and changed.
+#![tactic(auto)]
 
 ghost use Rattle.std.specs.Prelude.{◌≡◌, ◌≤◌, length, take};
 ghost use Rattle.buffers.specs.Filled.{filled};

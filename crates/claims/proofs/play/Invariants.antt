@@ -1,19 +1,11 @@
-use lib.ListN.{length-set}
-use Rattle.claims.proofs.Playing.{machine-end, played-end, stored-end}
-use Prim.Native.Nat.{ℕ, ◌≤◌, ◌<◌, ◌-◌}
-use mathlib.Core.Path.{◌≡◌, refl, ap, ◌∙◌}
+use Prim.Native.Nat.{◌≤◌, ◌-◌}
+use mathlib.Core.Path.{◌≡◌}
 use mathlib.Core.Bool.{true}
-use native.Mathlib.Omega.{arith}
 use lib.ListN.{length, take}
 use Rattle.buffers.specs.Filled.{filled}
-use borrow.Author.Rules.{scaled_Fits}
-use Rattle.handlers.specs.declared.Outcome.{Outcome}
 use Rattle.handlers.specs.Machines.{sound_of, power_on_of}
-use Rattle.handlers_laws.proofs.Kept.{step-sound, power-on-sound}
-use Rattle.handlers_laws.proofs.Checks.{outcome_of, checked-step, start-machine, start-refusal}
-use Rattle.claims.specs.Play.{end_of, each_of, answers_of, refusals_of}
-use Rattle.claims.proofs.Playing.{Fits, count_fits, machine-turn, stored-turn, claimed}
-use borrow.Author.Rules.{rules}
+use Rattle.claims.specs.Play.{end_of, answers_of, refusals_of}
+use Rattle.claims.proofs.Playing.{Fits}
 use Rattle.claims.proofs.play.Given as goal
 
 abbrev pub invariant-loop-i : goal.invariant-loop-i

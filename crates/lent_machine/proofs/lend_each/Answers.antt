@@ -1,4 +1,4 @@
-use Rattle.std.proofs.Common.{◌≡◌, ◌<◌, length, refl, ap, ◌∙◌, arith, rules}
+use Rattle.std.proofs.Common.{◌<◌, length, refl, ap, ◌∙◌, arith, rules}
 use lib.ListN.{set, length-set}
 use Rattle.handlers.specs.declared.Outcome.{Outcome}
 use Rattle.claims.specs.Play.{end_of, each_of}

@@ -8,7 +8,6 @@ use Rattle.handlers.specs.declared.Outcome.{Outcome}
 use Rattle.handlers.specs.Machines.{power_on_of}
 use Rattle.claims.specs.Play.{end_of, each_of, events_played}
 use Rattle.claims.proofs.Playing.{Fits, count_fits, played-end, claimed}
-use borrow.Author.Rules.{rules}
 use Rattle.lent_machine.proofs.play_lent.Goals as goal
 
 -- What the events leave on the machine of power-on.
