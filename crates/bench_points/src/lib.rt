@@ -1,1 +1,3 @@
+#![tactic(auto)]
+
 // No code: the bench points are in specs/, their proofs in proofs/.

@@ -1,4 +1,5 @@
 // A record played: bytes in, printed lines out.
+#![tactic(auto)]
 
 mod bytes;
 mod lines;

@@ -1,4 +1,5 @@
 // A record played: bytes in, numbers out.
+#![tactic(auto)]
 
 ghost use Rattle.std.specs.Prelude.{◌≡◌, length};
 ghost use Rattle.playback_numbers.specs.Numbers.{accepted_with, refused_with, numbers_of, answers_left, refusals_left, ServesFor};

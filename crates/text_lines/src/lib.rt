@@ -1,4 +1,5 @@
 // The lines of a text: what a line says, and the numbers in it.
+#![tactic(auto)]
 
 ghost use Rattle.std.specs.Prelude.{◌≡◌, ◌≤◌, length, take, drop, ltb};
 ghost use Rattle.digits.specs.Digits.{digit_of};

@@ -1,11 +1,11 @@
 -- A text that is too long is refused, and so is every cut of it that is still too long, alike.
-use mathlib.Core.Path.{◌≡◌, refl, sym, ◌∙◌}
+use mathlib.Core.Path.{◌≡◌, refl}
 use Prim.Native.Nat.{ℕ, ◌≤◌, ◌<◌}
 use native.Mathlib.Omega.{arith}
 use mathlib.Core.List.{List}
 use lib.ListN.{length, take}
 use lib.Seq.{length-take-le}
-use Rattle.text_reader.specs.Reading.{text_size, text_fault}
+use Rattle.text_reader.specs.Reading.{text_size}
 use Rattle.text_reader.specs.Answers.{to_record_answer, to_record_bytes}
 use Rattle.text_reader.proofs.Made.{long-text}
 

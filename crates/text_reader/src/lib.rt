@@ -1,4 +1,5 @@
 // The text of a record. A row is a line that says something: the first is N in decimal, each further one head:value in hexadecimal, an event. The record that a text makes.
+#![tactic(auto)]
 
 ghost use Rattle.std.specs.Prelude.{◌≡◌, true, false, cond, map, [], ◌∷◌, ◌+◌, ◌-◌, ◌≤◌, ◌<◌, min, length, get_or, take, drop, ltb};
 ghost use Rattle.record.specs.Record.{most_events, record_size};

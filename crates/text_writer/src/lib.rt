@@ -1,4 +1,5 @@
 // The text that is made of a record: N in decimal in the first line, then a line head:value in hexadecimal for each event.
+#![tactic(auto)]
 
 ghost use Rattle.std.specs.Prelude.{◌≡◌, ◌+◌, ◌*◌, ◌≤◌, ◌<◌, length, take};
 ghost use Rattle.std.proofs.lemmas.List.Edits.{sets};

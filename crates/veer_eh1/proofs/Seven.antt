@@ -1,7 +1,6 @@
 -- The seven numbers, and what the call leaves.
-use Prim.Native.Nat.{ℕ}
-use mathlib.Core.Path.{◌≡◌, ap, ◌∙◌}
-use mathlib.Core.List.{List, [], ◌∷◌}
+use mathlib.Core.Path.{◌≡◌, ap}
+use mathlib.Core.List.{[], ◌∷◌}
 use lib.IntN.{ℤ, pos}
 use Rattle.playback_numbers.specs.declared.Numbers.{Numbers}
 use Rattle.veer_eh1.specs.End.{seven_of}

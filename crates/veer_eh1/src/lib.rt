@@ -1,4 +1,5 @@
 // The record player as two calls for programs in C and Rust: as text, and as numbers.
+#![tactic(auto)]
 
 ghost use Rattle.std.specs.Prelude.{◌≡◌, length};
 ghost use Rattle.record.specs.Record.{board};

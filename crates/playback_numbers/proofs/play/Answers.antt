@@ -5,7 +5,6 @@ use lib.ListN.{length, replicate, length-replicate}
 use lib.Seq.{length-take-le}
 use Rattle.record.specs.Record.{most_events}
 use Rattle.playback_numbers.proofs.Reading.{serves-part}
-use borrow.Author.Rules.{rules}
 use Rattle.playback_numbers.proofs.play.Goals as goal
 
 zeros : length (replicate {A = ℕ} most_events 0) ≡ most_events

@@ -1,4 +1,4 @@
-use mathlib.Core.Path.{◌≡◌, sym}
+use mathlib.Core.Path.{sym}
 use native.Mathlib.Omega.{arith}
 use lib.ListN.{length}
 use lib.Seq.{length-take-le}
@@ -6,7 +6,6 @@ use Rattle.record.specs.Record.{board}
 use Rattle.playback.proofs.Reading.{WasRead, was_read, WasRefused, was-refused}
 use Rattle.playback_numbers.proofs.Reading.{served, refused-few}
 use Rattle.playback_numbers.proofs.Playing.{left-played, left-refused}
-use borrow.Author.Rules.{rules}
 use Rattle.playback_numbers.proofs.play_into.Goals as goal
 use Rattle.playback_numbers.proofs.play_into.Goals.{In-Done, In-Refused}
 

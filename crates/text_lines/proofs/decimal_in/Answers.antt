@@ -1,4 +1,3 @@
-use borrow.Author.Rules.{rules}
 use Rattle.text_lines.proofs.decimal_in.Goals as goal
 
 pub returns : goal.returns

@@ -1,8 +1,4 @@
 use borrow.Author.Rules.{rules}
-use Prim.Native.Nat.{◌≤◌, ◌-◌, ◌+◌}
-use mathlib.Core.Path.{◌≡◌}
-use lib.ListN.{length, drop}
-use Rattle.text_lines.specs.Lines.{before}
 use Rattle.text_lines.proofs.Marks.{find-turn, find-stop, find_none}
 use Rattle.text_lines.proofs.find.Goals as goal
 

@@ -1,4 +1,3 @@
-use borrow.Author.Rules.{rules}
 use Rattle.text_lines.proofs.hexadecimal_in.Goals as goal
 
 pub returns : goal.returns

@@ -1,7 +1,4 @@
-use Prim.Native.Nat.{◌≤◌}
-use mathlib.Core.Path.{◌≡◌, refl}
-use lib.ListN.{length}
-use Rattle.text_lines.specs.Rows.{kept_of}
+use mathlib.Core.Path.{refl}
 use Rattle.text_lines.proofs.Rows.{kept-turn, kept-stop, kept-end}
 use borrow.Author.Rules.{rules}
 use Rattle.text_lines.proofs.kept.Goals as goal

@@ -1,9 +1,7 @@
 use Prim.Native.Nat.{◌≤◌}
-use mathlib.Core.Path.{◌≡◌, refl}
+use mathlib.Core.Path.{◌≡◌}
 use lib.ListN.{length}
 use Rattle.text_lines.specs.Rows.{kept_of}
-use Rattle.text_lines.proofs.Rows.{kept-turn, kept-stop, kept-end}
-use borrow.Author.Rules.{rules}
 use Rattle.text_lines.proofs.kept.Given as goal
 
 abbrev pub invariant-loop-n : goal.invariant-loop-n

@@ -1,7 +1,4 @@
-use Prim.Native.Nat.{◌≤◌, ◌-◌}
-use mathlib.Core.Path.{◌≡◌, refl}
-use lib.ListN.{length, drop}
-use Rattle.text_lines.specs.Rows.{without_lead}
+use mathlib.Core.Path.{refl}
 use Rattle.text_lines.proofs.Rows.{lead-turn, lead-stop, lead-end}
 use borrow.Author.Rules.{rules}
 use Rattle.text_lines.proofs.lead.Goals as goal

@@ -1,9 +1,7 @@
 use Prim.Native.Nat.{◌≤◌, ◌-◌}
-use mathlib.Core.Path.{◌≡◌, refl}
+use mathlib.Core.Path.{◌≡◌}
 use lib.ListN.{length, drop}
 use Rattle.text_lines.specs.Rows.{without_lead}
-use Rattle.text_lines.proofs.Rows.{lead-turn, lead-stop, lead-end}
-use borrow.Author.Rules.{rules}
 use Rattle.text_lines.proofs.lead.Given as goal
 
 abbrev pub invariant-loop-i : goal.invariant-loop-i

@@ -1,9 +1,6 @@
 use borrow.Author.Rules.{rules}
-use Prim.Native.Nat.{◌≤◌, ◌<◌, ◌-◌, ◌+◌, ◌*◌, ◌^◌}
-use mathlib.Core.Path.{◌≡◌}
-use lib.ListN.{length, drop}
-use Rattle.text_lines.specs.Numbers.{number_in}
-use Rattle.text_lines.proofs.Digits.{not-counted, counted, found_from, found_turn, found-stop, found-end, one_more-fits, digit-fits}
+use Prim.Native.Nat.{◌<◌, ◌+◌, ◌*◌, ◌^◌}
+use Rattle.text_lines.proofs.Digits.{not-counted, counted, found_turn, found-stop, found-end, one_more-fits, digit-fits}
 use Rattle.text_lines.proofs.number_in.Goals as goal
 
 pub returns-then-not-text-most : goal.returns-then-not-text-most

@@ -1,9 +1,8 @@
-use borrow.Author.Rules.{rules}
-use Prim.Native.Nat.{◌≤◌, ◌<◌, ◌-◌, ◌+◌, ◌*◌, ◌^◌}
+use Prim.Native.Nat.{◌≤◌, ◌<◌, ◌-◌, ◌^◌}
 use mathlib.Core.Path.{◌≡◌}
 use lib.ListN.{length, drop}
 use Rattle.text_lines.specs.Numbers.{number_in}
-use Rattle.text_lines.proofs.Digits.{not-counted, counted, found_from, found_turn, found-stop, found-end, one_more-fits, digit-fits}
+use Rattle.text_lines.proofs.Digits.{found_from}
 use Rattle.text_lines.proofs.number_in.Given as goal
 
 abbrev pub invariant-loop-i : goal.invariant-loop-i

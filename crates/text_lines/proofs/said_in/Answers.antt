@@ -1,7 +1,6 @@
 use mathlib.Core.Path.{sym}
 use lib.Seq.{length-take-le}
 use Rattle.text_lines.proofs.Rows.{said-there}
-use borrow.Author.Rules.{rules}
 use Rattle.text_lines.proofs.said_in.Goals as goal
 
 pub slice_bounds-find-end : goal.slice_bounds-find-end

@@ -1,5 +1,4 @@
 use Rattle.text_lines.proofs.Rows.{says_there}
-use borrow.Author.Rules.{rules}
 use Rattle.text_lines.proofs.says_any.Goals as goal
 
 pub returns : goal.returns

@@ -2,7 +2,6 @@ use mathlib.Core.Path.{sym, ap, ◌∙◌}
 use lib.ListN.{length}
 use lib.Seq.{length-take-le}
 use Rattle.text_lines.proofs.Rows.{trimmed-there}
-use borrow.Author.Rules.{rules}
 use Rattle.text_lines.proofs.size_in.Goals as goal
 
 pub returns : goal.returns

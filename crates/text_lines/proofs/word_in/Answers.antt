@@ -4,7 +4,6 @@ use Prim.Native.Nat.{ℕ}
 use lib.Seq.{length-take-le}
 use Rattle.text_lines.specs.Numbers.{number_in}
 use Rattle.text_lines.proofs.Rows.{trimmed-there}
-use borrow.Author.Rules.{rules}
 use Rattle.text_lines.proofs.word_in.Goals as goal
 
 pub slice_bounds-number_in-end : goal.slice_bounds-number_in-end

@@ -1,7 +1,6 @@
 use Rattle.digits.specs.Ascii.{ascii}
 use Rattle.digits.specs.Digits.{decimal}
 use Rattle.digits.proofs.Pieces.{two-pieces}
-use borrow.Author.Rules.{rules}
 use Rattle.text_messages.proofs.put_line.Goals as goal
 
 pub returns : goal.returns

@@ -1,7 +1,6 @@
 use Rattle.digits.specs.Ascii.{ascii}
 use Rattle.digits.specs.Digits.{decimal}
 use Rattle.digits.proofs.Pieces.{four}
-use borrow.Author.Rules.{rules}
 use Rattle.text_messages.proofs.put_place.Goals as goal
 
 pub returns : goal.returns

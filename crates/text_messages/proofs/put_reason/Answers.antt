@@ -1,7 +1,6 @@
 use Rattle.digits.specs.Ascii.{ascii}
 use Rattle.text_messages.specs.Messages.{why_words}
 use Rattle.digits.proofs.Pieces.{three}
-use borrow.Author.Rules.{rules}
 use Rattle.text_messages.proofs.put_reason.Goals as goal
 
 pub returns : goal.returns

@@ -1,7 +1,6 @@
 use Rattle.digits.specs.Ascii.{ascii}
 use Rattle.refusals.specs.Words.{words_of}
 use Rattle.digits.proofs.Pieces.{three}
-use borrow.Author.Rules.{rules}
 use Rattle.text_messages.proofs.put_refusal.Goals as goal
 
 pub returns : goal.returns

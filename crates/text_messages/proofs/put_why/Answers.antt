@@ -1,6 +1,5 @@
 use borrow.Author.Tests.{ne_eqb}
 use Rattle.digits.specs.Ascii.{ascii}
-use borrow.Author.Rules.{rules}
 use Rattle.text_messages.proofs.put_why.Goals as goal
 
 pub returns-in-1 : goal.returns-in-1

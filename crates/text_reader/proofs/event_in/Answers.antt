@@ -1,7 +1,6 @@
 use mathlib.Core.Path.{sym}
 use lib.Seq.{length-take-le}
 use Rattle.text_reader.proofs.Turns.{event-there}
-use borrow.Author.Rules.{rules}
 use Rattle.text_reader.proofs.event_in.Goals as goal
 
 pub slice_bounds-first-end : goal.slice_bounds-first-end

@@ -1,7 +1,6 @@
 use mathlib.Core.Path.{sym}
 use lib.Seq.{length-take-le}
 use Rattle.text_reader.proofs.Turns.{said-is, says_is, next-there}
-use borrow.Author.Rules.{rules}
 use Rattle.text_reader.proofs.line_at.Goals as goal
 
 pub slice_bounds-line-end : goal.slice_bounds-line-end

@@ -1,13 +1,9 @@
 use Prim.Native.Nat.{◌≤◌, ◌-◌, ◌+◌}
-use mathlib.Core.Path.{◌≡◌, refl, sym}
-use mathlib.Core.Bool.{true≢false}
-use native.Mathlib.Omega.{arith}
+use mathlib.Core.Path.{◌≡◌}
 use lib.ListN.{length, drop}
 use Rattle.text_lines.specs.Lines.{lines_in}
 use Rattle.text_lines.specs.Rows.{rows_from}
 use Rattle.text_reader.specs.Reading.{text_size}
-use Rattle.text_reader.proofs.Turns.{row-past, row-found, one_line-more, no_row, no_line}
-use borrow.Author.Rules.{rules}
 use Rattle.text_reader.proofs.next_row.Given as goal
 
 abbrev pub invariant-loop-at : goal.invariant-loop-at

@@ -1,15 +1,11 @@
-use Prim.Native.Nat.{◌≤◌, ◌<◌, ◌-◌, ◌+◌}
-use mathlib.Core.Path.{◌≡◌, refl}
+use Prim.Native.Nat.{◌≤◌, ◌-◌, ◌+◌}
+use mathlib.Core.Path.{◌≡◌}
 use mathlib.Core.List.{map}
-use native.Mathlib.Omega.{arith}
-use borrow.Author.Tests.{not-true, not-false}
 use lib.ListN.{length, take, drop}
 use Rattle.record.specs.Record.{most_events}
 use Rattle.text_lines.specs.Lines.{lines_in}
-use Rattle.text_lines.specs.Rows.{Row, rows_from}
+use Rattle.text_lines.specs.Rows.{rows_from}
 use Rattle.text_reader.specs.Reading.{head_in, value_in, numbers_of, text_size, events_fault}
-use Rattle.text_reader.proofs.Turns.{rows-turn, count_turn, stored-turn, rows_end, fault-many, fault-event, fault-short, fault-turn, fault-none, head-is, value-is}
-use borrow.Author.Rules.{rules}
 use Rattle.text_reader.proofs.read_events.Given as goal
 
 abbrev pub invariant-loop-row : goal.invariant-loop-row

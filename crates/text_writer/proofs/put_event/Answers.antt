@@ -1,5 +1,4 @@
 use Rattle.text_writer.proofs.Writing.{line-put}
-use borrow.Author.Rules.{rules}
 use Rattle.text_writer.proofs.put_event.Goals as goal
 
 pub returns : goal.returns

@@ -1,5 +1,4 @@
 use Rattle.text_writer.proofs.Writing.{first-put, listing-put}
-use borrow.Author.Rules.{rules}
 use Rattle.text_writer.proofs.put_listing.Goals as goal
 
 pub put_events-requires : goal.put_events-requires

@@ -1,4 +1,3 @@
-use borrow.Author.Rules.{rules}
 use Rattle.veer_eh1.proofs.veer_eh1_play.Goals as goal
 
 pub returns : goal.returns

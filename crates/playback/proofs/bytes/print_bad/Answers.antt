@@ -4,7 +4,6 @@ use lib.ListN.{length}
 use Rattle.playback.specs.Size.{first_line_size, print_room}
 use Rattle.playback.specs.Print.{refused_line}
 use Rattle.playback.proofs.Room.{no_room, with-room, had-room}
-use borrow.Author.Rules.{rules}
 use Rattle.playback.proofs.bytes.print_bad.Goals as goal
 
 pub returns-then-out-print_room : goal.returns-then-out-print_room

@@ -1,7 +1,6 @@
 use Prim.Native.Nat.{ℕ}
 use lib.ListN.{length-replicate}
 use Rattle.record.specs.Record.{most_events}
-use borrow.Author.Rules.{rules}
 use Rattle.playback.proofs.bytes.print_into.Goals as goal
 
 pub print_within-requires : goal.print_within-requires

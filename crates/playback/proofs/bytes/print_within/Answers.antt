@@ -7,7 +7,6 @@ use Rattle.record.specs.Record.{most_events, heads_of}
 use Rattle.record.proofs.Questions.{own-arrays}
 use Rattle.playback.proofs.Room.{put_as}
 use Rattle.playback.proofs.Reading.{WasRead, was_read, WasRefused, was-refused, print-refused, played-is, room-done, room-refused}
-use borrow.Author.Rules.{rules}
 use Rattle.playback.proofs.bytes.print_within.Goals as goal
 use Rattle.playback.proofs.bytes.print_within.Goals.{In-Done, In-Refused}
 

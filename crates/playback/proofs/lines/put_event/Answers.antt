@@ -1,4 +1,3 @@
-use borrow.Author.Rules.{rules}
 use Rattle.digits.specs.Ascii.{ascii}
 use Rattle.digits.specs.Digits.{decimal}
 use Rattle.playback.proofs.Rows.{room-1, room-2, room-3, room-4, four-stand}

@@ -1,4 +1,3 @@
-use borrow.Author.Rules.{rules}
 use mathlib.Core.List.{[], ◌∷◌}
 use Rattle.digits.specs.Digits.{decimal}
 use Rattle.digits.proofs.Pieces.{two-pieces}

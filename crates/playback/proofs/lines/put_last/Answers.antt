@@ -5,7 +5,6 @@ use Rattle.digits.specs.Ascii.{ascii}
 use Rattle.playback.specs.Text.{signed}
 use lib.ListN.{length}
 use Rattle.playback.proofs.Rows.{three-behind, last-room}
-use borrow.Author.Rules.{rules}
 use Rattle.playback.proofs.lines.put_last.Goals as goal
 
 pub put_two-a-requires : goal.put_two-a-requires

@@ -3,7 +3,6 @@ use Rattle.digits.specs.Digits.{decimal}
 use mathlib.Core.List.{◌++◌}
 use Rattle.digits.specs.Ascii.{ascii}
 use lib.ListN.{length}
-use borrow.Author.Rules.{rules}
 use Rattle.playback.proofs.lines.put_line.Goals as goal
 
 pub put_two-a-requires : goal.put_two-a-requires

@@ -5,7 +5,6 @@ use Rattle.digits.specs.Ascii.{ascii}
 use Rattle.playback.specs.Text.{minus}
 use lib.ListN.{length}
 use Rattle.playback.proofs.Rows.{four-margin, margin-room}
-use borrow.Author.Rules.{rules}
 use Rattle.playback.proofs.lines.put_margin.Goals as goal
 
 pub returns : goal.returns

@@ -1,5 +1,4 @@
 use Rattle.digits.specs.Ascii.{ascii}
-use borrow.Author.Rules.{rules}
 use Rattle.playback.proofs.lines.put_sign.Goals as goal
 
 pub returns-then-below : goal.returns-then-below

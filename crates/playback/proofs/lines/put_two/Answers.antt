@@ -1,6 +1,5 @@
 use Rattle.digits.proofs.Pieces.{four}
 use Rattle.digits.specs.Digits.{decimal}
-use borrow.Author.Rules.{rules}
 use Rattle.playback.proofs.lines.put_two.Goals as goal
 
 pub returns : goal.returns

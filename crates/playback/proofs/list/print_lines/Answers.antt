@@ -8,7 +8,6 @@ use Rattle.buffers.specs.Least.{least}
 use Rattle.playback.specs.Size.{lines_room}
 use Rattle.playback.specs.Print.{events_given}
 use Rattle.playback.proofs.Whole.{any_fit, given-few, given-not, given-put}
-use borrow.Author.Rules.{rules}
 use Rattle.playback.proofs.list.print_lines.Goals as goal
 use Rattle.playback.proofs.list.print_lines.Goals.{After-lesser-k, Else-not-has_room}
 

@@ -6,7 +6,6 @@ use Rattle.playback.specs.Size.{first_line_size}
 use Rattle.playback.specs.Print.{refused_line}
 use Rattle.playback.proofs.Room.{no_room, with-room}
 use Rattle.playback.proofs.Whole.{refused-length, at-start}
-use borrow.Author.Rules.{rules}
 use Rattle.playback.proofs.list.print_refused.Goals as goal
 
 pub returns-then-out-lt-FIRST_LINE_SIZE : goal.returns-then-out-lt-FIRST_LINE_SIZE

@@ -1,8 +1,6 @@
-use borrow.Author.Rules.{rules}
-use Prim.Native.Nat.{ℕ, ◌-◌, ◌^◌, ◌<◌}
+use Prim.Native.Nat.{ℕ, ◌^◌, ◌<◌}
 use native.Mathlib.Omega.{arith}
-use lib.ListN.{length}
-use Rattle.playback.proofs.Printing.{Printed, none-printed, line-room, one-printed, all-printed}
+use Rattle.playback.proofs.Printing.{none-printed, line-room, one-printed, all-printed}
 use Rattle.playback.proofs.list.put_events.Goals as goal
 
 wider : (x : ℕ) → x < 2 ^ 32 → x < 2 ^ 64

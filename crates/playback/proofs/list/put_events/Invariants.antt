@@ -1,8 +1,6 @@
-use borrow.Author.Rules.{rules}
-use Prim.Native.Nat.{ℕ, ◌-◌, ◌^◌, ◌<◌}
-use native.Mathlib.Omega.{arith}
+use Prim.Native.Nat.{◌-◌}
 use lib.ListN.{length}
-use Rattle.playback.proofs.Printing.{Printed, none-printed, line-room, one-printed, all-printed}
+use Rattle.playback.proofs.Printing.{Printed}
 use Rattle.playback.proofs.list.put_events.Given as goal
 
 abbrev pub invariant-loop-i : goal.invariant-loop-i

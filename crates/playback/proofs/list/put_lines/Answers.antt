@@ -2,7 +2,6 @@ use lib.ListN.{length}
 use Rattle.digits.specs.Ascii.{ascii}
 use Rattle.playback.specs.Print.{first_line, event_lines, end_line}
 use Rattle.playback.proofs.Whole.{first-room, second-room, third-room, three-stand}
-use borrow.Author.Rules.{rules}
 use Rattle.playback.proofs.list.put_lines.Goals as goal
 
 pub put_line-a-requires : goal.put_line-a-requires
