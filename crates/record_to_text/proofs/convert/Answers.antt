@@ -3,7 +3,6 @@ use mathlib.Core.Path.{sym, ap}
 use lib.ListN.{length}
 use lib.Seq.{length-take-le}
 use Rattle.text_writer.specs.Answers.{text_length}
-use borrow.Author.Rules.{rules}
 use Rattle.record_to_text.proofs.convert.Goals as goal
 use Rattle.record_to_text.proofs.convert.Goals.{In-Done}
 

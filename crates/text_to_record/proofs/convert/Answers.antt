@@ -3,7 +3,6 @@ use mathlib.Core.Path.{sym, ap}
 use lib.ListN.{length}
 use lib.Seq.{length-take-le}
 use Rattle.text_reader.specs.Answers.{record_length}
-use borrow.Author.Rules.{rules}
 use Rattle.text_to_record.proofs.convert.Goals as goal
 use Rattle.text_to_record.proofs.convert.Goals.{In-Done}
 
