@@ -1,0 +1,2 @@
+-- The number of each refusal.
+pub mod Numbers
