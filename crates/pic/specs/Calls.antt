@@ -6,20 +6,21 @@ use Rattle.pic_source.specs.Ranks.{field_of}
 use Rattle.pic.specs.declared.Controller.{Controller}
 use Rattle.pic.specs.declared.Scalars.{Scalars}
 use Rattle.pic_comparator.specs.declared.Winner.{Winner}
-use Rattle.pic.specs.declared.Outcome.{Outcome}
+use Rattle.pic.specs.Outcome.{Outcome}
 use Rattle.pic.specs.declared.Look.{Look}
 use Rattle.pic.specs.Fields.{with_scalars, with_claim, with_claimed, with_current}
 use Rattle.pic.specs.Sources.{threshold_of, current_of, winner_of, margin_of}
+use Rattle.outcome.specs.Outcomes.{accepted_with, refused_with}
 use Rattle.source_count.specs.Count.{is_count}
 use Rattle.pic.specs.Sound.{initial}
 
 -- The controller accepts an event: it hands back a controller and an answer, with no refusal.
 abbrev pub accepts : Controller → ℕ → Outcome
-accepts c a = record { controller = c; answer = a; refusal = 0 }
+accepts c a = accepted_with c a
 
 -- The controller refuses an event: it answers 0 and the number, and is left as it was.
 abbrev pub refuses : Controller → ℕ → Outcome
-refuses c q = record { controller = c; answer = 0; refusal = q }
+refuses c q = refused_with c q
 
 -- A question of the controller's: no is the refusal q, yes goes on.
 abbrev pub asks : Controller → Bool → ℕ → Outcome → Outcome

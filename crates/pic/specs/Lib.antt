@@ -1,4 +1,5 @@
 -- The rules of the interrupt controller, in the order of document 01.
+pub mod Outcome
 pub mod Fields
 pub mod Sources
 pub mod Sound

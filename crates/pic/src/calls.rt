@@ -2,9 +2,9 @@
 
 ghost use Rattle.std.specs.Prelude.{◌≡◌};
 ghost use Rattle.pic.specs.Sources.{difference_of, higher_of, over_of};
-ghost use Rattle.pic.specs.Calls.{accepts, refuses, source_count, priority_order, current_rank, set_current, meihap_of, capture_of, look_of};
+ghost use Rattle.pic.specs.Calls.{source_count, priority_order, current_rank, set_current, meihap_of, capture_of, look_of};
 
-use crate::{Controller, Look, Outcome};
+use crate::{Controller, Look};
 use pic_comparator::Winner;
 use pic_source::Rank;
 use pic_source::ranks::{to_field, to_rank};
@@ -31,26 +31,6 @@ pub fn meihap(base: u32, claim: u8) -> u32
 }
 
 impl Controller {
-    pub fn accept(self, a: u32) -> Outcome
-        ensures { result ≡ accepts self a }
-    {
-        Outcome {
-            controller: self,
-            answer: a,
-            refusal: 0,
-        }
-    }
-
-    pub fn refuse(self, q: u8) -> Outcome
-        ensures { result ≡ refuses self q }
-    {
-        Outcome {
-            controller: self,
-            answer: 0,
-            refusal: q,
-        }
-    }
-
     // N.
     pub fn source_count(self) -> u8
         ensures { result ≡ source_count self }

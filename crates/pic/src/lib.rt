@@ -6,6 +6,7 @@ pub mod calls;
 mod sound;
 mod sources;
 
+use outcome::Answering;
 use pic_comparator::Winner;
 use pic_source::Field;
 
@@ -37,13 +38,10 @@ pub struct Controller {
     pub scalars: Scalars,
 }
 
-// What an event hands back. A refused one answers 0 and hands back the controller as it was.
-#[derive(Clone, Copy)]
-pub struct Outcome {
-    pub controller: Controller,
-    pub answer: u32,
-    pub refusal: u8,
-}
+// What an event hands back.
+pub type Outcome = outcome::Outcome<Controller>;
+
+impl Answering for Controller {}
 
 // One look at the sources: the winner, whether it is above the threshold, the margin, and meihap once it is captured.
 #[derive(Clone, Copy)]

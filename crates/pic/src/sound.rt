@@ -5,6 +5,7 @@ ghost use Rattle.pic.specs.Sound.{source_sound, initial, sources_sound, sound_of
 ghost use Rattle.pic.specs.Calls.{power_on_of};
 
 use crate::{Controller, Outcome, Scalars};
+use outcome::Answering;
 use pic_source::Field;
 use source_count::is_count;
 
@@ -51,17 +52,9 @@ impl Controller {
         ensures { result ≡ power_on_of n }
     {
         if is_count(n) {
-            Outcome {
-                controller: with_sources(n as u8),
-                answer: 0,
-                refusal: 0,
-            }
+            with_sources(n as u8).accept(0)
         } else {
-            Outcome {
-                controller: with_sources(2),
-                answer: 0,
-                refusal: 2,
-            }
+            with_sources(2).refuse(2)
         }
     }
 

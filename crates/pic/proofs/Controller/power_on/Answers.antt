@@ -13,8 +13,8 @@ overflow_cast-n c =
 
 pub returns-then-is_count : goal.returns-then-is_count
 unfolding power_on_of
-returns-then-is_count c = rw (sym c.is_count.ensures ∙ c.if-is_count.true, c.with_sources.ensures)
+returns-then-is_count c = rw (sym c.is_count.ensures ∙ c.if-is_count.true, c.accept.ensures, c.with_sources.ensures)
 
 pub returns-else-is_count : goal.returns-else-is_count
 unfolding power_on_of
-returns-else-is_count c = rw (sym c.is_count.ensures ∙ c.if-is_count.false, c.with_sources-else-is_count.ensures)
+returns-else-is_count c = rw (sym c.is_count.ensures ∙ c.if-is_count.false, c.refuse.ensures, c.with_sources-else-is_count.ensures)

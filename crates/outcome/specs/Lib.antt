@@ -1,0 +1,2 @@
+-- What an event hands back.
+pub mod Outcomes

@@ -1,0 +1,11 @@
+-- Document 01: "Each event takes the machine and hands it back with the answer"; "A refused event or query answers 0 and the number."
+use Rattle.std.specs.Prelude.{ℕ}
+use Rattle.outcome.specs.declared.Outcome.{Outcome}
+
+-- Accepted: a machine and an answer, with no refusal.
+abbrev pub accepted_with : {M : Type 0} → M → ℕ → Outcome M
+accepted_with m a = record { machine = m; answer = a; refusal = 0 }
+
+-- Refused: it answers 0 and the number, and the machine is as it was.
+abbrev pub refused_with : {M : Type 0} → M → ℕ → Outcome M
+refused_with m q = record { machine = m; answer = 0; refusal = q }

@@ -1,0 +1,38 @@
+// What an event hands back, whatever it is an event of: the machine, or a part of it.
+#![tactic(auto)]
+
+ghost use Rattle.std.specs.Prelude.{◌≡◌};
+ghost use Rattle.outcome.specs.Outcomes.{accepted_with, refused_with};
+
+// The new machine, the answer and the refusal, 0 if the event is accepted. A refused one answers 0 and hands back the machine as it was.
+#[derive(Clone, Copy)]
+pub struct Outcome<M> {
+    pub machine: M,
+    pub answer: u32,
+    pub refusal: u8,
+}
+
+// A machine, or a part of one, that answers events.
+pub trait Answering: Sized {
+    // It accepts an event, and hands itself back with the answer.
+    fn accept(self, answer: u32) -> Outcome<Self>
+        ensures { result ≡ accepted_with self answer }
+    {
+        Outcome {
+            machine: self,
+            answer,
+            refusal: 0,
+        }
+    }
+
+    // It refuses an event, and hands itself back as it was.
+    fn refuse(self, refusal: u8) -> Outcome<Self>
+        ensures { result ≡ refused_with self refusal }
+    {
+        Outcome {
+            machine: self,
+            answer: 0,
+            refusal,
+        }
+    }
+}
