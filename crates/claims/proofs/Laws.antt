@@ -12,7 +12,7 @@ use borrow.Author.Tests.{eqb-true, ltb-true, ne_eqb}
 use Rattle.event.specs.Event.{kind_of, address_of}
 use Rattle.pic.specs.declared.Controller.{Controller}
 use Rattle.pic.specs.declared.Look.{Look}
-use Rattle.pic.specs.declared.Outcome as controller
+use Rattle.pic.specs.Outcome as controller
 use Rattle.pic_source.specs.declared.Rank.{Rank}
 use Rattle.pic.specs.Sources.{rank_at, enable_at, pending_at, threshold_of}
 use Rattle.pic.specs.Calls.{source_count}
@@ -30,7 +30,7 @@ use Rattle.nesting.specs.Held.{held}
 use Rattle.nesting.proofs.Held.{held-push, held-pop, held-swap, held-mark, held-length, held-top}
 use Rattle.nesting.proofs.Nesting.{trace-words, end-sound, nesting}
 use Rattle.handlers.specs.declared.Machine.{Machine}
-use Rattle.handlers.specs.declared.Outcome.{Outcome}
+use Rattle.handlers.specs.Outcome.{Outcome}
 use Rattle.handlers.specs.Fields.{with_counters}
 use Rattle.handlers_stack.specs.Stacks.{blank}
 use Rattle.handlers.specs.Machines.{uppermost, sound_of, power_on_of}

@@ -13,7 +13,7 @@ use Rattle.buffers.proofs.Least.{least-both, least_first, least_above}
 use Rattle.nesting.specs.Claim as claim
 use Rattle.nesting.specs.Trace as trace
 use Rattle.handlers.specs.declared.Machine.{Machine}
-use Rattle.handlers.specs.declared.Outcome.{Outcome}
+use Rattle.handlers.specs.Outcome.{Outcome}
 use Rattle.handlers.specs.Machines.{sound_of, power_on_of}
 use Rattle.handlers.specs.Calls.{step_of}
 use Rattle.claims.specs.declared.Played.{Played}

@@ -11,7 +11,7 @@ use Rattle.nesting.specs.Trace as trace
 use Rattle.nesting.specs.Held.{held}
 use Rattle.handlers_stack.specs.declared.Handler.{Handler}
 use Rattle.handlers.specs.declared.Machine.{Machine}
-use Rattle.handlers.specs.declared.Outcome.{Outcome}
+use Rattle.handlers.specs.Outcome.{Outcome}
 use Rattle.handlers.specs.Machines.{sound_of, power_on_of}
 use Rattle.handlers.specs.Calls.{step_of}
 use Rattle.claims.specs.Play.{answers_of, refusals_of}

@@ -3,7 +3,7 @@
 use Rattle.std.specs.Prelude.{ℕ, List, [], ◌∷◌, take}
 use Rattle.buffers.specs.Least.{least}
 use Rattle.handlers.specs.declared.Machine.{Machine}
-use Rattle.handlers.specs.declared.Outcome.{Outcome}
+use Rattle.handlers.specs.Outcome.{Outcome}
 use Rattle.handlers.specs.Machines.{power_on_of}
 use Rattle.handlers.specs.Calls.{step_of}
 use Rattle.claims.specs.declared.Played.{Played}

@@ -7,7 +7,7 @@ use Rattle.counters.specs.Whole as counters
 use Rattle.handlers_stack.specs.declared.Handler.{Handler}
 use Rattle.handlers_service.specs.Sound as service
 use Rattle.handlers.specs.declared.Machine.{Machine}
-use Rattle.handlers.specs.declared.Outcome.{Outcome}
+use Rattle.handlers.specs.Outcome.{Outcome}
 
 -- The uppermost handler, where there is one.
 abbrev pub uppermost : Machine → Handler

@@ -5,18 +5,18 @@ use Rattle.event.specs.Kinds as kind
 use Rattle.event.specs.Event.{kind_of, address_of, shape_of}
 use Rattle.pic.specs.declared.Look.{Look}
 use Rattle.pic.specs.declared.Controller.{Controller}
-use Rattle.pic.specs.declared.Outcome as controller
+use Rattle.pic.specs.Outcome as controller
 use Rattle.pic.specs.Calls.{priority_order, current_rank, set_current, capture_of, look_of}
 use Rattle.pic_registers.specs.Calls as registers
 use Rattle.pic_csrs.specs.Calls as csrs
 use Rattle.counters.specs.declared.Counted.{Counted}
 use Rattle.counters.specs.Whole as whole
 use Rattle.counters.specs.Csrs as counters
-use Rattle.handlers_service.specs.declared.Outcome as handler
+use Rattle.handlers_service.specs.Outcome as handler
 use Rattle.handlers_service.specs.Events as service
 use Rattle.handlers_questions.specs.Questions as questions
 use Rattle.handlers.specs.declared.Machine.{Machine}
-use Rattle.handlers.specs.declared.Outcome.{Outcome}
+use Rattle.handlers.specs.Outcome.{Outcome}
 use Rattle.handlers.specs.Fields.{with_controller, with_service, with_counters}
 use Rattle.handlers.specs.Machines.{uppermost}
 

@@ -17,7 +17,7 @@ use Rattle.counters_errors.proofs.Counts.{counted-each, refused-above}
 use Rattle.counters.specs.Whole as whole
 use Rattle.counters.specs.Csrs as counters
 use Rattle.handlers.specs.declared.Machine.{Machine}
-use Rattle.handlers.specs.declared.Outcome.{Outcome}
+use Rattle.handlers.specs.Outcome.{Outcome}
 use Rattle.handlers.specs.Fields.{with_counters}
 use Rattle.handlers.specs.Machines.{uppermost, sound_of}
 use Rattle.handlers.specs.Service.{accepted, refused, ask, lifted, of_counters, may_store, may_write, controller_write, look_at, captured, sample_event, load_event, store_event, csr_read_event, csr_write_event, take_event, open_event, chain_event, return_event, set_mask_event, clock_event, error_event, look_event, commit_event, event_of, sound_step_of}

@@ -2,7 +2,7 @@
 use Prim.Native.Nat.{ℕ}
 use mathlib.Core.Path.{◌≡◌, refl}
 use mathlib.Core.Bool.{true}
-use Rattle.handlers.specs.declared.Outcome.{Outcome}
+use Rattle.handlers.specs.Outcome.{Outcome}
 use Rattle.handlers.specs.declared.Checked.{Checked}
 use Rattle.handlers.specs.declared.CheckedOutcome.{CheckedOutcome}
 use Rattle.handlers.specs.Machines.{power_on_of, sound_of}

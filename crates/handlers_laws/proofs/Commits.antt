@@ -14,7 +14,7 @@ use Rattle.pic_laws.proofs.Sources.{count_most}
 use Rattle.handlers_stack.specs.declared.Handler.{Handler}
 use Rattle.handlers_stack.specs.Stacks.{blank}
 use Rattle.handlers.specs.declared.Machine.{Machine}
-use Rattle.handlers.specs.declared.Outcome.{Outcome}
+use Rattle.handlers.specs.Outcome.{Outcome}
 use Rattle.handlers.specs.Machines.{uppermost, sound_of}
 use Rattle.handlers.specs.Service.{accepted, ask, look_at, captured, chain_event, look_event, event_of, sound_step_of}
 use Rattle.handlers.specs.Calls.{sound_first, chain_of, look_of, commit_of, step_of}

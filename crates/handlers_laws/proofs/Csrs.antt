@@ -8,7 +8,7 @@ use native.Mathlib.Omega.{arith}
 use lib.Dec.{eqb}
 use borrow.Author.Tests.{eqb-true, ne_eqb}
 use Rattle.pic_source.proofs.Bools.{never, or_cases}
-use Rattle.pic.specs.declared.Outcome as pic
+use Rattle.pic.specs.Outcome as pic
 use Rattle.pic_csrs.specs.declared.Csr as controller
 use Rattle.pic_csrs.specs.declared.Csr.TheVariants as c
 use Rattle.pic_csrs.specs.Addresses as csrs
@@ -21,7 +21,7 @@ use Rattle.counters.specs.Csrs.{csr_address, is_csr, csr_at, csr_value, csr_writ
 use Rattle.counters.proofs.Addresses.{address-csr, in_a_row, none_above}
 use Rattle.counters.proofs.Writes.{written-each, written-sound}
 use Rattle.handlers.specs.declared.Machine.{Machine}
-use Rattle.handlers.specs.declared.Outcome.{Outcome}
+use Rattle.handlers.specs.Outcome.{Outcome}
 use Rattle.handlers.specs.Fields.{with_counters}
 use Rattle.handlers.specs.Machines.{sound_of}
 use Rattle.handlers.specs.Service.{accepted, refused, lifted, of_counters, may_write, csr_read_event, controller_write, csr_write_event}

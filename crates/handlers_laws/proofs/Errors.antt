@@ -11,7 +11,7 @@ use Rattle.event.proofs.Laws.{error-shape}
 use Rattle.counters_errors.specs.Errors.{may_count}
 use Rattle.counters_errors.proofs.Counts.{reset-errors, error-again, counted-each, refused-above}
 use Rattle.handlers.specs.declared.Machine.{Machine}
-use Rattle.handlers.specs.declared.Outcome.{Outcome}
+use Rattle.handlers.specs.Outcome.{Outcome}
 use Rattle.handlers.specs.Machines.{power_on_of, sound_of}
 use Rattle.handlers.specs.Service.{accepted, refused, ask, error_event, event_of, sound_step_of}
 use Rattle.handlers.specs.Calls.{error_of, step_of}

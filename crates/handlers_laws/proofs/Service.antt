@@ -11,13 +11,13 @@ use Rattle.pic.specs.declared.Controller.{Controller}
 use Rattle.pic.specs.Calls.{current_rank, set_current}
 use Rattle.handlers_stack.specs.declared.Handler.{Handler}
 use Rattle.handlers_questions.specs.Questions as questions
-use Rattle.handlers_service.specs.declared.Outcome as handler
+use Rattle.handlers_service.specs.Outcome as handler
 use Rattle.handlers_service.specs.Fields as fields
 use Rattle.handlers_service.specs.Sound as sound
 use Rattle.handlers_service.specs.Events as service
 use Rattle.handlers_service.specs.Events.{take_of, open_of, chain_of, return_of, set_mask_of, look_of, commit_of}
 use Rattle.handlers.specs.declared.Machine.{Machine}
-use Rattle.handlers.specs.declared.Outcome.{Outcome}
+use Rattle.handlers.specs.Outcome.{Outcome}
 use Rattle.handlers.specs.Fields.{with_controller, with_service}
 use Rattle.handlers.specs.Machines.{uppermost}
 use Rattle.handlers.specs.Service.{accepted, ask, look_at, served_with, captured_in, captured, take_event, open_event, chain_event, return_event, set_mask_event, look_event, commit_event}

@@ -16,7 +16,7 @@ use Rattle.pic_source.proofs.Bools.{or_cases}
 use Rattle.pic_laws.proofs.Kept.{store-sound, sample-current, store-current, csr-write-current, load_same, csr-read-same, capture-current}
 use Rattle.pic_laws.proofs.Orders.{store-order, store-refusal, ordered-is, ordered-count, ordered_same, other-order, turned, power-on-order, power-on-ranks}
 use Rattle.handlers.specs.declared.Machine.{Machine}
-use Rattle.handlers.specs.declared.Outcome.{Outcome}
+use Rattle.handlers.specs.Outcome.{Outcome}
 use Rattle.handlers.specs.Fields.{with_controller}
 use Rattle.handlers.specs.Machines.{power_on_of, sound_of}
 use Rattle.handlers.specs.Service.{accepted, ask, lifted, switches, store_event}

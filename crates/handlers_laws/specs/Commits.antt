@@ -8,7 +8,7 @@ use Rattle.pic.specs.Calls.{source_count}
 use Rattle.handlers_questions.specs.Questions.{may_commit}
 use Rattle.handlers_service.specs.Events.{has_handler, next_source}
 use Rattle.handlers.specs.declared.Machine.{Machine}
-use Rattle.handlers.specs.declared.Outcome.{Outcome}
+use Rattle.handlers.specs.Outcome.{Outcome}
 use Rattle.handlers.specs.Machines.{uppermost, sound_of}
 use Rattle.handlers.specs.Service.{accepted, refused, look_at, captured}
 use Rattle.handlers.specs.Calls.{chain_of, look_of, commit_of, step_of}

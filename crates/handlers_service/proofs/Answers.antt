@@ -3,7 +3,7 @@ use Rattle.std.proofs.Common.{◌≡◌, ℕ, ◌<◌, ◌≤◌, Bool, true, fa
 use Rattle.pic.specs.declared.Look.{Look}
 use Rattle.handlers_stack.specs.declared.Handler.{Handler}
 use Rattle.handlers_service.specs.declared.Service.{Service}
-use Rattle.handlers_service.specs.declared.Outcome.{Outcome}
+use Rattle.handlers_service.specs.Outcome.{Outcome}
 use Rattle.handlers_service.specs.Sound.{uppermost}
 use Rattle.handlers_questions.specs.Questions.{may_commit}
 use Rattle.handlers_service.specs.Events.{refused, ask, in_handler, serves_in, serves, next_in, next_source}

@@ -7,7 +7,7 @@ use Rattle.pic_comparator.specs.declared.Winner.{Winner}
 use Rattle.handlers_questions.specs.Questions.{may_commit}
 use Rattle.handlers_stack.specs.declared.Handler.{Handler}
 use Rattle.handlers_service.specs.declared.Service.{Service}
-use Rattle.handlers_service.specs.declared.Outcome.{Outcome}
+use Rattle.handlers_service.specs.Outcome.{Outcome}
 use Rattle.handlers_service.specs.Fields.{with_mask, with_depth, with_stack, with_source, with_opened}
 use Rattle.handlers_service.specs.Sound.{uppermost, is_open}
 

@@ -2,7 +2,7 @@
 use Rattle.std.specs.Prelude.{ℕ, cond, not, eqb}
 use Rattle.pic_csrs.specs.Addresses.{csr_at, is_csr}
 use Rattle.pic.specs.declared.Controller.{Controller}
-use Rattle.pic.specs.declared.Outcome.{Outcome}
+use Rattle.pic.specs.Outcome.{Outcome}
 use Rattle.pic.specs.Fields.{with_scalars}
 use Rattle.pic.specs.Sources.{winner_of}
 use Rattle.pic.specs.Calls.{accepts, asks, capture_of}

@@ -6,6 +6,7 @@ ghost use Rattle.pic_csrs.specs.Addresses.{csr_at, is_csr};
 ghost use Rattle.pic_csrs.specs.Values.{csr_value, csr_written};
 ghost use Rattle.pic_csrs.specs.Calls.{csr_read_of, csr_write_of};
 
+use outcome::Answering;
 use pic::calls::meihap;
 use pic::{Controller, Outcome, Scalars};
 use pic_source::Field;

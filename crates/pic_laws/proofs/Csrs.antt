@@ -18,7 +18,7 @@ module _ (c : Controller) (a v : ℕ) where
       go true x = refl
       go false x = refl
 
-  pub write-12 : is_csr (csr_at a) ≡ false → csr_write_of c a v ≡ record { controller = c; answer = 0; refusal = 12 }
+  pub write-12 : is_csr (csr_at a) ≡ false → csr_write_of c a v ≡ record { machine = c; answer = 0; refusal = 12 }
   unfolding csr_write_of
   write-12 e = rw e
 

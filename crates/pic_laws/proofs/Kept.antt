@@ -8,7 +8,7 @@ use lib.Dec.{leb, eqb}
 use borrow.Author.Tests.{leb-true, eqb-true}
 use Rattle.pic.specs.declared.Controller.{Controller}
 use Rattle.pic.specs.declared.Scalars.{Scalars}
-use Rattle.pic.specs.declared.Outcome.{Outcome}
+use Rattle.pic.specs.Outcome.{Outcome}
 use Rattle.pic_source.specs.declared.Rank.{Rank}
 use Rattle.pic_registers.specs.declared.Register.{Register}
 use Rattle.pic_registers.specs.declared.Register.TheVariants.{Meipl, Meip, Meie, Mpiccfg, Meigwctrl, Meigwclr, NoRegister}
@@ -35,7 +35,7 @@ use Rattle.pic_registers.proofs.Sounds.{written-field, sampled-sound, written-so
 use Rattle.pic_csrs.proofs.Addresses.{csr-address}
 
 -- A question: what holds of the controller that was handed in, and of what goes on, holds of the answer.
-pub ask-keeps : (P : Controller → Type 0) (c : Controller) (t : Bool) (q : ℕ) (o : Outcome) → P c → P o.controller → P (asks c t q o).controller
+pub ask-keeps : (P : Controller → Type 0) (c : Controller) (t : Bool) (q : ℕ) (o : Outcome) → P c → P o.machine → P (asks c t q o).machine
 ask-keeps P c true q o a b = b
 ask-keeps P c false q o a b = a
 
@@ -76,17 +76,17 @@ abbrev IsSound : Controller → Type 0
 IsSound c = sound_of c ≡ true
 
 module _ (c : Controller) (e : sound_of c ≡ true) where
-  pub sample-sound : (x v : ℕ) → sound_of (sample_of c x v).controller ≡ true
+  pub sample-sound : (x v : ℕ) → sound_of (sample_of c x v).machine ≡ true
   unfolding sample_of
   sample-sound x v = ask-keeps IsSound c (leb x 7) 9 _ e (sound (sampled c x v) (sampled-sound c x v (facts c e)))
 
-  pub store-sound : (o v : ℕ) → sound_of (store_of c o v).controller ≡ true
+  pub store-sound : (o v : ℕ) → sound_of (store_of c o v).machine ≡ true
   unfolding store_of
   store-sound o v =
       ask-keeps IsSound c (eqb (offset_refusal o) 0) (offset_refusal o) _ e
       (sound (written_of c (register_at c.sources o) v) (written-sound c (register_at c.sources o) v (register-valid c.sources o) (facts c e)))
 
-  pub csr-write-sound : (a v : ℕ) → v < 2 ^ 32 → sound_of (csr_write_of c a v).controller ≡ true
+  pub csr-write-sound : (a v : ℕ) → v < 2 ^ 32 → sound_of (csr_write_of c a v).machine ≡ true
   unfolding csr_write_of
   csr-write-sound a v b =
       ask-keeps IsSound c (is_csr (csr_at a)) 12 _ e
@@ -130,11 +130,11 @@ initial-sound n a b =
       latched = λ s c d. rw (get_or-replicate {A = ℕ} 256 s 0 0 (omega arith));
     })
 
-pub power-on-sound : (n : ℕ) → sound_of (power_on_of n).controller ≡ true
+pub power-on-sound : (n : ℕ) → sound_of (power_on_of n).machine ≡ true
 unfolding power_on_of
 power-on-sound n = go (is_count n) refl
   where
-    go : (t : Bool) → is_count n ≡ t → sound_of (cond t (accepts (initial n) 0) (refuses (initial 2) 2)).controller ≡ true
+    go : (t : Bool) → is_count n ≡ t → sound_of (cond t (accepts (initial n) 0) (refuses (initial 2) 2)).machine ≡ true
     go true e = let p = and_parts (leb 2 n) (leb n 255) e in initial-sound n (leb-true 2 n p.0) (leb-true n 255 p.1)
     go false e = initial-sound 2 (omega arith) (omega arith)
 
@@ -143,24 +143,24 @@ module _ {A : Type 0} (part : Controller → A) where
   abbrev SamePart : Controller → Controller → Type 0
   SamePart c d = part d ≡ part c
 
-  same-sample : (c : Controller) (x v : ℕ) → part (sampled c x v) ≡ part c → part (sample_of c x v).controller ≡ part c
+  same-sample : (c : Controller) (x v : ℕ) → part (sampled c x v) ≡ part c → part (sample_of c x v).machine ≡ part c
   unfolding sample_of
   same-sample c x v h = ask-keeps (SamePart c) c (leb x 7) 9 (accepts (sampled c x v) 0) refl h
 
   -- A store to the register whose offset it is.
   pub same_store : (c : Controller) (o v : ℕ) → ((r : Register) → ((r ≡ NoRegister → ⊥) → offset_of r ≡ o) → part (written_of c r v) ≡ part c)
-      → part (store_of c o v).controller ≡ part c
+      → part (store_of c o v).machine ≡ part c
   unfolding store_of
   same_store c o v h = go (eqb (offset_refusal o) 0) refl
     where
-      go : (t : Bool) → eqb (offset_refusal o) 0 ≡ t → part (asks c t (offset_refusal o) (accepts (written_of c (register_at c.sources o) v) 0)).controller ≡ part c
+      go : (t : Bool) → eqb (offset_refusal o) 0 ≡ t → part (asks c t (offset_refusal o) (accepts (written_of c (register_at c.sources o) v) 0)).machine ≡ part c
       go true f =
           h (register_at c.sources o)
           (λ d. register-offset c.sources o (register_at c.sources o) (aligned o (eqb-true (offset_refusal o) 0 f)) refl d)
       go false f = refl
 
   pub same-csr-write : (c : Controller) (a v : ℕ) → part (capture_of c (winner_of c)) ≡ part c
-      → part (with_scalars c (csr_written c.scalars (csr_at a) v)) ≡ part c → part (csr_write_of c a v).controller ≡ part c
+      → part (with_scalars c (csr_written c.scalars (csr_at a) v)) ≡ part c → part (csr_write_of c a v).machine ≡ part c
   unfolding csr_write_of
   same-csr-write c a v g h =
       ask-keeps (SamePart c) c (is_csr (csr_at a)) 12 _ refl
@@ -213,28 +213,28 @@ csr-priord s v Meihap = refl
 csr-priord s v NoCsr = refl
 
 -- Every call keeps N.
-pub sample-count : (c : Controller) (x v : ℕ) → source_count (sample_of c x v).controller ≡ source_count c
+pub sample-count : (c : Controller) (x v : ℕ) → source_count (sample_of c x v).machine ≡ source_count c
 unfolding source_count
 sample-count c x v = same-sample source_count c x v refl
 
-pub store-count : (c : Controller) (o v : ℕ) → source_count (store_of c o v).controller ≡ source_count c
+pub store-count : (c : Controller) (o v : ℕ) → source_count (store_of c o v).machine ≡ source_count c
 store-count c o v = same_store source_count c o v (λ r k. stored-count c v r)
 
-pub csr-write-count : (c : Controller) (a v : ℕ) → source_count (csr_write_of c a v).controller ≡ source_count c
+pub csr-write-count : (c : Controller) (a v : ℕ) → source_count (csr_write_of c a v).machine ≡ source_count c
 unfolding source_count capture_of
 csr-write-count c a v = same-csr-write source_count c a v refl refl
 
 -- Every call but a write of meicurpl and a store that switches priord keeps the current rank.
-pub sample-current : (c : Controller) (x v : ℕ) → current_rank (sample_of c x v).controller ≡ current_rank c
+pub sample-current : (c : Controller) (x v : ℕ) → current_rank (sample_of c x v).machine ≡ current_rank c
 unfolding current_rank
 sample-current c x v = same-sample current_rank c x v refl
 
-pub store-current : (c : Controller) (o v : ℕ) → (o ≡ 0x3000 → v % 2 ≡ priority_order c) → current_rank (store_of c o v).controller ≡ current_rank c
+pub store-current : (c : Controller) (o v : ℕ) → (o ≡ 0x3000 → v % 2 ≡ priority_order c) → current_rank (store_of c o v).machine ≡ current_rank c
 store-current c o v h =
     same_store current_rank c o v
     (λ r k. stored-current c v r (λ z. h (sym (k (λ n. no-mpiccfg (sym z ∙ n))) ∙ ap offset_of z)))
 
-pub csr-write-current : (c : Controller) (a v : ℕ) → (a ≡ 0xBCC → ⊥) → current_rank (csr_write_of c a v).controller ≡ current_rank c
+pub csr-write-current : (c : Controller) (a v : ℕ) → (a ≡ 0xBCC → ⊥) → current_rank (csr_write_of c a v).machine ≡ current_rank c
 unfolding current_rank capture_of
 csr-write-current c a v d =
     same-csr-write current_rank c a v refl (csr-current c.scalars v (csr_at a) (λ e. d (csr-address a Meicurpl (λ f. never-csr f) e)))
@@ -266,18 +266,18 @@ unfolding csr_write_of csr_at csr_written set_current
 current-written c r h = rw (field-written c.scalars.priord r h)
 
 -- A load and a CSR read change nothing.
-pub load_same : (c : Controller) (o : ℕ) → (load_of c o).controller ≡ c
+pub load_same : (c : Controller) (o : ℕ) → (load_of c o).machine ≡ c
 unfolding load_of
 load_same c o =
     ask-keeps (λ d. d ≡ c) c (eqb (offset_refusal o) 0) (offset_refusal o) (accepts c (read_of c (register_at c.sources o))) refl refl
 
-pub csr-read-same : (c : Controller) (a : ℕ) → (csr_read_of c a).controller ≡ c
+pub csr-read-same : (c : Controller) (a : ℕ) → (csr_read_of c a).machine ≡ c
 unfolding csr_read_of
 csr-read-same c a = ask-keeps (λ d. d ≡ c) c (is_csr (csr_at a)) 12 (accepts c (csr_value c.scalars (csr_at a))) refl refl
 
 -- A refused call leaves the controller as it was.
 abbrev Unchanged : Controller → Outcome → Type 0
-Unchanged c o = (o.refusal ≡ 0 → ⊥) → o.controller ≡ c
+Unchanged c o = (o.refusal ≡ 0 → ⊥) → o.machine ≡ c
 
 ask-unchanged : (c : Controller) (t : Bool) (q : ℕ) (o : Outcome) → Unchanged c o → Unchanged c (asks c t q o)
 ask-unchanged c true q o h = h

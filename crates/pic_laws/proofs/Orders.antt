@@ -83,18 +83,18 @@ initial-ranks n h =
       current = refl;
     }
 
-pub power-on-order : (n : ℕ) → priority_order (power_on_of n).controller ≡ 0
+pub power-on-order : (n : ℕ) → priority_order (power_on_of n).machine ≡ 0
 unfolding priority_order power_on_of
 power-on-order n = go (is_count n)
   where
-    go : (t : Bool) → (cond t (accepts (initial n) 0) (refuses (initial 2) 2)).controller.scalars.priord ≡ 0
+    go : (t : Bool) → (cond t (accepts (initial n) 0) (refuses (initial 2) 2)).machine.scalars.priord ≡ 0
     go true = refl
     go false = refl
 
-pub power-on-ranks : (n : ℕ) → AllRanks (ordered (power_on_of n).controller 1) 15
+pub power-on-ranks : (n : ℕ) → AllRanks (ordered (power_on_of n).machine 1) 15
 unfolding power_on_of
 power-on-ranks n = go (is_count n) refl
   where
-    go : (t : Bool) → is_count n ≡ t → AllRanks (ordered (cond t (accepts (initial n) 0) (refuses (initial 2) 2)).controller 1) 15
+    go : (t : Bool) → is_count n ≡ t → AllRanks (ordered (cond t (accepts (initial n) 0) (refuses (initial 2) 2)).machine 1) 15
     go true e = initial-ranks n (leb-true n 255 (and_parts (leb 2 n) (leb n 255) e).1)
     go false e = initial-ranks 2 (omega arith)

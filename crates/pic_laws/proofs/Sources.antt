@@ -11,7 +11,7 @@ use lib.Dec.{leb, eqb}
 use borrow.Author.Tests.{eqb-true, eqb-false, eq-eqb, ne_eqb, le-leb}
 use Rattle.pic.specs.declared.Controller.{Controller}
 use Rattle.pic.specs.declared.Scalars.{Scalars}
-use Rattle.pic.specs.declared.Outcome.{Outcome}
+use Rattle.pic.specs.Outcome.{Outcome}
 use Rattle.pic_comparator.specs.declared.Winner.{Winner}
 use Rattle.pic_source.specs.declared.Rank.{Rank}
 use Rattle.pic_source.specs.declared.Field.{Field}
@@ -44,7 +44,7 @@ pub record Arrays : Type 0 where
 abbrev pub arrays_of : Controller → Arrays
 arrays_of c = record { priord = c.scalars.priord; field = c.field; polarity = c.polarity; line = c.line; latch = c.latch }
 
-pub csr-write-arrays : (c : Controller) (a v : ℕ) → arrays_of (csr_write_of c a v).controller ≡ arrays_of c
+pub csr-write-arrays : (c : Controller) (a v : ℕ) → arrays_of (csr_write_of c a v).machine ≡ arrays_of c
 unfolding capture_of
 csr-write-arrays c a v =
     same-csr-write arrays_of c a v refl
@@ -81,12 +81,12 @@ module _ {store : Type 0} {o : ℕ} (c : Controller) (s : ℕ) where
   unfolding priority_order
   arrays-stay d h = record { field = λ z. ap (λ (a : Arrays). field (get_or a.field s 0)) h; priord = λ z. ap (λ (a : Arrays). a.priord) h }
 
-  pub sample-stays : (x v : ℕ) → Stays store o s c (sample_of c x v).controller
+  pub sample-stays : (x v : ℕ) → Stays store o s c (sample_of c x v).machine
   unfolding sample_of priority_order
   sample-stays x v =
       ask-keeps (Stays store o s c) c (leb x 7) 9 (accepts (sampled c x v) 0) (arrays-stay c refl) (record { field = λ z. refl; priord = λ z. refl })
 
-  pub store-stays : (v : ℕ) → store → Stays store o s c (store_of c o v).controller
+  pub store-stays : (v : ℕ) → store → Stays store o s c (store_of c o v).machine
   unfolding priority_order
   store-stays v is =
       record {
@@ -105,7 +105,7 @@ count_most c e = (facts c e).most
 
 -- What an accepted call does to the latch of source s.
 abbrev AcceptedFollows : ℕ → ℕ → Outcome → Type 0
-AcceptedFollows s before o = o.refusal ≡ 0 → Follows o.controller s before
+AcceptedFollows s before o = o.refusal ≡ 0 → Follows o.machine s before
 
 ask-follows : (s before : ℕ) (c : Controller) (t : Bool) (q : ℕ) (o : Outcome) → (q ≡ 0 → ⊥) → (t ≡ true → AcceptedFollows s before o) → AcceptedFollows s before (asks c t q o)
 ask-follows s before c true q o n h = h refl
@@ -161,7 +161,7 @@ module _ (c : Controller) (e : sound_of c ≡ true) (s : ℕ) (a : 1 ≤ s) (b :
       go false f z = absurd (eqb-false (offset_refusal o) 0 f z)
 
   -- A store to its meipl makes the field of a source the value's bits 3:0.
-  pub field_stored : (v : ℕ) → field_at (store_of c (4 * s) v).controller s ≡ field (v % 16)
+  pub field_stored : (v : ℕ) → field_at (store_of c (4 * s) v).machine s ≡ field (v % 16)
   unfolding store_of written_of
   field_stored v =
       let n = (facts c e).most in

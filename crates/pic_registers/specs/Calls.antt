@@ -2,7 +2,7 @@
 use Rattle.std.specs.Prelude.{ℕ, leb, eqb}
 use Rattle.pic_registers.specs.Offsets.{register_at, offset_refusal}
 use Rattle.pic.specs.declared.Controller.{Controller}
-use Rattle.pic.specs.declared.Outcome.{Outcome}
+use Rattle.pic.specs.Outcome.{Outcome}
 use Rattle.pic.specs.Calls.{accepts, asks}
 use Rattle.pic_registers.specs.Registers.{sampled, read_of, written_of}
 

@@ -16,6 +16,7 @@ use crate::values::{
     clear_latch, enable_at, field_at, gateway_at, write_enable, write_field, write_gateway,
     write_priord,
 };
+use outcome::Answering;
 use pic::{Controller, Outcome};
 
 // The registers by source number, or by word for meip.

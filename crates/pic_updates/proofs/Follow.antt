@@ -36,37 +36,37 @@ module _ (c d : Controller) (sets : List (List ℕ)) where
   switches n = rw (ne_eqb c.scalars.priord d.scalars.priord n)
 
 module _ (c : Controller) (sets : List (List ℕ)) where
-  pub sample-follows : (x v : ℕ) {d : Controller} {next : List (List ℕ)} → d ≡ (sample_of c x v).controller → next ≡ moved_word c d (x % 8 % 8) sets
-      → next ≡ followed_of c (sample_of c x v).controller sets
+  pub sample-follows : (x v : ℕ) {d : Controller} {next : List (List ℕ)} → d ≡ (sample_of c x v).machine → next ≡ moved_word c d (x % 8 % 8) sets
+      → next ≡ followed_of c (sample_of c x v).machine sets
   sample-follows x v {d} {next} hd hn =
       rw hd at hn
       ∙ all_moved c after (λ (t : ℕ). eqb (t / 32) (x % 8 % 8)) sets (λ r t k f. sampled-others c x v r t k (λ e. eqb-false (t / 32) (x % 8 % 8) f (omega (arith, e))))
       ∙ stays c after sets (sampled-order c x v)
     where
       after : Controller
-      after = (sample_of c x v).controller
+      after = (sample_of c x v).machine
 
-  module _ (o v : ℕ) {d : Controller} (hd : d ≡ (store_of c o v).controller) where
+  module _ (o v : ℕ) {d : Controller} (hd : d ≡ (store_of c o v).machine) where
     pub store-follows : {next : List (List ℕ)} → c.sources ≤ 255 → c.scalars.priord ≡ d.scalars.priord → next ≡ moved_at c d (o % 4096 / 4 % 256) sets
-        → next ≡ followed_of c (store_of c o v).controller sets
+        → next ≡ followed_of c (store_of c o v).machine sets
     store-follows {next} l e hn =
         rw hd at hn
         ∙ all_moved c after (λ (t : ℕ). eqb t (o % 4096 / 4 % 256)) sets (λ r t k f. store-others c o v r t l (eqb-false t (o % 4096 / 4 % 256) f) (sym p))
         ∙ stays c after sets (sym p)
       where
         after : Controller
-        after = (store_of c o v).controller
+        after = (store_of c o v).machine
 
         p : c.scalars.priord ≡ after.scalars.priord
         p = e ∙ ap (λ (m : Controller). m.scalars.priord) hd
 
-    pub store-reverses : {next : List (List ℕ)} → (c.scalars.priord ≡ d.scalars.priord → ⊥) → next ≡ reversed_of sets → next ≡ followed_of c (store_of c o v).controller sets
-    store-reverses n hn = hn ∙ switches c (store_of c o v).controller sets (λ e. n (e ∙ ap (λ (m : Controller). m.scalars.priord) (sym hd)))
+    pub store-reverses : {next : List (List ℕ)} → (c.scalars.priord ≡ d.scalars.priord → ⊥) → next ≡ reversed_of sets → next ≡ followed_of c (store_of c o v).machine sets
+    store-reverses n hn = hn ∙ switches c (store_of c o v).machine sets (λ e. n (e ∙ ap (λ (m : Controller). m.scalars.priord) (sym hd)))
 
 -- Sets that were right are right after a sample,
 pub sample-fresh : SampleFresh
 sample-fresh c x v =
-    let d = (sample_of c x v).controller in
+    let d = (sample_of c x v).machine in
     sym (stays c d (fresh_of c) (sampled-order c x v)) ∙ moved-fresh c d
 
 -- A store that switches priord leaves all else.
@@ -82,12 +82,12 @@ written-switch c (Meigwctrl s) v h n = absurd (n refl)
 written-switch c (Meigwclr s) v h n = absurd (n refl)
 written-switch c NoRegister v h n = absurd (n refl)
 
-store-switch : (c : Controller) (o v : ℕ) → Sound c → (c.scalars.priord ≡ (store_of c o v).controller.scalars.priord → ⊥) → (store_of c o v).controller ≡ switched c
+store-switch : (c : Controller) (o v : ℕ) → Sound c → (c.scalars.priord ≡ (store_of c o v).machine.scalars.priord → ⊥) → (store_of c o v).machine ≡ switched c
 unfolding store_of
 store-switch c o v h = go (eqb (offset_refusal o) 0)
   where
     after : Bool → Controller
-    after b = (asks c b (offset_refusal o) (accepts (written_of c (register_at c.sources o) v) 0)).controller
+    after b = (asks c b (offset_refusal o) (accepts (written_of c (register_at c.sources o) v) 0)).machine
 
     go : (b : Bool) → (c.scalars.priord ≡ (after b).scalars.priord → ⊥) → after b ≡ switched c
     go true n = written-switch c (register_at c.sources o) v h n
@@ -98,7 +98,7 @@ pub store-fresh : StoreFresh
 store-fresh c o v e = go (eq-cases c.scalars.priord d.scalars.priord)
   where
     d : Controller
-    d = (store_of c o v).controller
+    d = (store_of c o v).machine
 
     go : (c.scalars.priord ≡ d.scalars.priord) ⊎ (c.scalars.priord ≡ d.scalars.priord → ⊥) → followed_of c d (fresh_of c) ≡ fresh_of d
     go (inl p) = sym (stays c d (fresh_of c) (sym p)) ∙ moved-fresh c d

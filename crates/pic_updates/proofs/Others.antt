@@ -76,13 +76,13 @@ apart-at n o t l d =
     go false b false z true e false false false false = tt
     go false b false z false e p0 p2 p4 p5 = tt
 
-pub store-others : (c : Controller) (o v r t : ℕ) → c.sources ≤ 255 → (t ≡ o % 4096 / 4 % 256 → ⊥) → (store_of c o v).controller.scalars.priord ≡ c.scalars.priord
-    → belongs c r t ≡ belongs (store_of c o v).controller r t
+pub store-others : (c : Controller) (o v r t : ℕ) → c.sources ≤ 255 → (t ≡ o % 4096 / 4 % 256 → ⊥) → (store_of c o v).machine.scalars.priord ≡ c.scalars.priord
+    → belongs c r t ≡ belongs (store_of c o v).machine r t
 unfolding store_of
 store-others c o v r t l d = go (eqb (offset_refusal o) 0)
   where
     after : Bool → Controller
-    after b = (asks c b (offset_refusal o) (accepts (written_of c (register_at c.sources o) v) 0)).controller
+    after b = (asks c b (offset_refusal o) (accepts (written_of c (register_at c.sources o) v) 0)).machine
 
     go : (b : Bool) → (after b).scalars.priord ≡ c.scalars.priord → belongs c r t ≡ belongs (after b) r t
     go true f = written-others c (register_at c.sources o) v r t (apart-at c.sources o t l d) f
@@ -91,9 +91,9 @@ store-others c o v r t l d = go (eqb (offset_refusal o) 0)
 -- What a sample leaves, with question 9 asked.
 module _ (c : Controller) (x v : ℕ) where
   after : Bool → Controller
-  after b = (asks c b 9 (accepts (sampled c x v) 0)).controller
+  after b = (asks c b 9 (accepts (sampled c x v) 0)).machine
 
-  pub sampled-others : (r t : ℕ) → t < 256 → (t / 32 ≡ x % 8 → ⊥) → belongs c r t ≡ belongs (sample_of c x v).controller r t
+  pub sampled-others : (r t : ℕ) → t < 256 → (t / 32 ≡ x % 8 → ⊥) → belongs c r t ≡ belongs (sample_of c x v).machine r t
   unfolding sample_of after
   sampled-others r t l d = go (leb x 7) refl
     where
@@ -101,7 +101,7 @@ module _ (c : Controller) (x v : ℕ) where
       go true f = sample-others c x v r t (λ e. d (omega (arith, e, l)))
       go false f = refl
 
-  pub sampled-order : (sample_of c x v).controller.scalars.priord ≡ c.scalars.priord
+  pub sampled-order : (sample_of c x v).machine.scalars.priord ≡ c.scalars.priord
   unfolding sample_of after
   sampled-order = go (leb x 7)
     where

@@ -21,8 +21,8 @@ moved_word c d x sets = moved_where (λ (t : ℕ). eqb (t / 32) x) c d sets
 
 -- "After every event on a sound machine the sets equal those worked out afresh": the part of it that a sample and a store have.
 abbrev pub SampleFresh : Type 0
-SampleFresh = (c : Controller) (x v : ℕ) → followed_of c (sample_of c x v).controller (fresh_of c) ≡ fresh_of (sample_of c x v).controller
+SampleFresh = (c : Controller) (x v : ℕ) → followed_of c (sample_of c x v).machine (fresh_of c) ≡ fresh_of (sample_of c x v).machine
 
 abbrev pub StoreFresh : Type 0
 StoreFresh =
-    (c : Controller) (offset v : ℕ) → sound_of c ≡ true → followed_of c (store_of c offset v).controller (fresh_of c) ≡ fresh_of (store_of c offset v).controller
+    (c : Controller) (offset v : ℕ) → sound_of c ≡ true → followed_of c (store_of c offset v).machine (fresh_of c) ≡ fresh_of (store_of c offset v).machine

@@ -62,10 +62,10 @@ fn follow_word(c: Controller, d: Controller, x: u8, sets: &mut [[u32; 8]; 16])
 // The lines of word x take the bits of v.
 pub fn sample(c: Controller, x: u32, v: u32, sets: &mut [[u32; 8]; 16]) -> Outcome
     ensures value { result ≡ sample_of c x v }
-    ensures sets_after { sets.new ≡ followed_of c (sample_of c x v).controller sets.old }
+    ensures sets_after { sets.new ≡ followed_of c (sample_of c x v).machine sets.old }
 {
     let out = pic_registers::sample(c, x, v);
-    let d = out.controller;
+    let d = out.machine;
     follow_word(c, d, (x % 8) as u8, sets);
     out
 }
@@ -73,10 +73,10 @@ pub fn sample(c: Controller, x: u32, v: u32, sets: &mut [[u32; 8]; 16]) -> Outco
 // A store of the word v at an offset. It changes one source at most, or priord.
 pub fn store(c: Controller, offset: u32, v: u32, sets: &mut [[u32; 8]; 16]) -> Outcome
     ensures value { result ≡ store_of c offset v }
-    ensures sets_after { sets.new ≡ followed_of c (store_of c offset v).controller sets.old }
+    ensures sets_after { sets.new ≡ followed_of c (store_of c offset v).machine sets.old }
 {
     let out = pic_registers::store(c, offset, v);
-    let d = out.controller;
+    let d = out.machine;
     if c.scalars.priord == d.scalars.priord {
         follow_source(c, d, (offset % 4096 / 4 % 256) as u8, sets);
     } else {

@@ -14,7 +14,7 @@ use Rattle.record.specs.Answers.{all_yes}
 use Rattle.record.proofs.Questions.{readable}
 use Rattle.record.proofs.Walk.{heads-length, values_length}
 use Rattle.handlers.specs.declared.Machine.{Machine}
-use Rattle.handlers.specs.declared.Outcome.{Outcome}
+use Rattle.handlers.specs.Outcome.{Outcome}
 use Rattle.claims.specs.Play.{end_of, each_of, answers_of, refusals_of}
 use Rattle.claims.proofs.Playing.{each-length}
 use Rattle.playback.specs.Print.{print_of, refused_line}

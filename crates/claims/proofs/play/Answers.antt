@@ -5,7 +5,7 @@ use mathlib.Core.Path.{◌≡◌, refl, ap, ◌∙◌}
 use native.Mathlib.Omega.{arith}
 use lib.ListN.{take}
 use borrow.Author.Rules.{scaled_Fits}
-use Rattle.handlers.specs.declared.Outcome.{Outcome}
+use Rattle.handlers.specs.Outcome.{Outcome}
 use Rattle.handlers.specs.Machines.{power_on_of}
 use Rattle.handlers_laws.proofs.Kept.{step-sound, power-on-sound}
 use Rattle.handlers_laws.proofs.Checks.{outcome_of, checked-step, start-machine, start-refusal}

@@ -1,6 +1,6 @@
 use Rattle.std.proofs.Common.{◌<◌, length, refl, ap, ◌∙◌, arith, rules}
 use lib.ListN.{set, length-set}
-use Rattle.handlers.specs.declared.Outcome.{Outcome}
+use Rattle.handlers.specs.Outcome.{Outcome}
 use Rattle.claims.specs.Play.{end_of, each_of}
 use Rattle.claims.proofs.Playing.{machine-turn, stored-turn}
 use Rattle.lent_machine.specs.declared.Answered.{Answered}

@@ -4,7 +4,7 @@ use mathlib.Core.List.{List}
 use lib.ListN.{length, take}
 use Rattle.buffers.specs.Filled.{filled}
 use Rattle.handlers.specs.declared.Machine.{Machine}
-use Rattle.handlers.specs.declared.Outcome.{Outcome}
+use Rattle.handlers.specs.Outcome.{Outcome}
 use Rattle.handlers.specs.Machines.{power_on_of}
 use Rattle.claims.specs.Play.{end_of, each_of, events_played}
 use Rattle.claims.proofs.Playing.{Fits, count_fits, played-end, claimed}

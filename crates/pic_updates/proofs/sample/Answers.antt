@@ -1,5 +1,5 @@
 use mathlib.Core.Path.{ap}
-use Rattle.pic.specs.declared.Outcome.{Outcome}
+use Rattle.pic.specs.Outcome.{Outcome}
 use Rattle.pic_updates.proofs.Follow.{sample-follows}
 use Rattle.pic_updates.proofs.sample.Goals as goal
 
@@ -7,4 +7,4 @@ pub returns : goal.returns
 returns c =
     let a = c.args in
     let e = c.sample-out.ensures in
-    record { value = e; sets_after = sample-follows a.c a.sets.now a.x a.v (ap (λ (r : Outcome). r.controller) e) c.follow_word.ensures }
+    record { value = e; sets_after = sample-follows a.c a.sets.now a.x a.v (ap (λ (r : Outcome). r.machine) e) c.follow_word.ensures }
