@@ -32,8 +32,8 @@ sound c f = rw f.timers f.errors
 pub reset-sound : sound_of reset_counters ≡ true
 reset-sound = sound reset_counters (record { timers = timers.reset-sound; errors = errors.reset-sound })
 
-pub clock-sound : (c : Counters) → sound_of c ≡ true → sound_of (clock_of c).counters ≡ true
-clock-sound c e = let f = facts c e in sound (clock_of c).counters (record { timers = timers.clock-sound c.timers f.timers; errors = f.errors })
+pub clock-sound : (c : Counters) → sound_of c ≡ true → sound_of (clock_of c).machine ≡ true
+clock-sound c e = let f = facts c e in sound (clock_of c).machine (record { timers = timers.clock-sound c.timers f.timers; errors = f.errors })
 
-pub error-sound : (c : Counters) (a : ℕ) → sound_of c ≡ true → sound_of (error_of c a).counters ≡ true
-error-sound c a e = let f = facts c e in sound (error_of c a).counters (record { timers = f.timers; errors = errors.error-sound c.errors a f.errors })
+pub error-sound : (c : Counters) (a : ℕ) → sound_of c ≡ true → sound_of (error_of c a).machine ≡ true
+error-sound c a e = let f = facts c e in sound (error_of c a).machine (record { timers = f.timers; errors = errors.error-sound c.errors a f.errors })

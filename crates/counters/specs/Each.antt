@@ -9,10 +9,10 @@ use Rattle.counters.specs.Csrs.{is_csr, csr_value, csr_written}
 
 -- A clock changes no error counter, and an error no timer (document 02, No. 1 and No. 5).
 abbrev pub ClockKeepsErrors : Type 0
-ClockKeepsErrors = (c : Counters) → (clock_of c).counters.errors ≡ c.errors
+ClockKeepsErrors = (c : Counters) → (clock_of c).machine.errors ≡ c.errors
 
 abbrev pub ErrorKeepsTimers : Type 0
-ErrorKeepsTimers = (c : Counters) (a : ℕ) → (error_of c a).counters.timers ≡ c.timers
+ErrorKeepsTimers = (c : Counters) (a : ℕ) → (error_of c a).machine.timers ≡ c.timers
 
 -- What a CSR keeps of a value that is written to it.
 abbrev pub kept_by : Csr → ℕ → ℕ

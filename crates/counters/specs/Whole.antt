@@ -5,7 +5,8 @@ use Rattle.counters_timers.specs.Timers as timers
 use Rattle.counters_errors.specs.declared.ErrorCounters.{ErrorCounters}
 use Rattle.counters_errors.specs.Errors as errors
 use Rattle.counters.specs.declared.Counters.{Counters}
-use Rattle.counters.specs.declared.Counted.{Counted}
+use Rattle.counters.specs.Outcome.{Outcome}
+use Rattle.outcome.specs.Outcomes.{accepted_with}
 
 -- The counters with other timers, and with other error counters.
 abbrev pub with_timers : Counters → Timers → Counters
@@ -23,13 +24,13 @@ unfoldable pub sound_of : Counters → Bool
 sound_of c = timers.timers_sound c.timers && errors.errors_sound c.errors
 
 -- A clock is the timers', and is asked nothing; an error is the error counters', with their question.
-abbrev pub clock_of : Counters → Counted
-clock_of c = record { counters = with_timers c (timers.clock_of c.timers).timers; answer = (timers.clock_of c.timers).answer; refusal = 0 }
+abbrev pub clock_of : Counters → Outcome
+clock_of c = accepted_with (with_timers c (timers.clock_of c.timers).timers) (timers.clock_of c.timers).answer
 
-abbrev pub error_of : Counters → ℕ → Counted
+abbrev pub error_of : Counters → ℕ → Outcome
 error_of c a =
     record {
-      counters = with_errors c (errors.error_of c.errors a).counters;
+      machine = with_errors c (errors.error_of c.errors a).machine;
       answer = (errors.error_of c.errors a).answer;
       refusal = (errors.error_of c.errors a).refusal;
     }

@@ -6,6 +6,7 @@ mod whole;
 
 use counters_errors::ErrorCounters;
 use counters_timers::Timers;
+use outcome::Answering;
 
 // The counters of a machine.
 #[derive(Clone, Copy)]
@@ -14,13 +15,10 @@ pub struct Counters {
     pub errors: ErrorCounters,
 }
 
-// What a clock or an error hands back. A refused one answers 0 and hands back the counters as they were.
-#[derive(Clone, Copy)]
-pub struct Counted {
-    pub counters: Counters,
-    pub answer: u32,
-    pub refusal: u8,
-}
+// What a clock or an error hands back.
+pub type Outcome = outcome::Outcome<Counters>;
+
+impl Answering for Counters {}
 
 // A CSR of the counters, with the number of its timer or of its error counter.
 #[derive(Clone, Copy)]

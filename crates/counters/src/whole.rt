@@ -3,9 +3,10 @@
 ghost use Rattle.std.specs.Prelude.{◌≡◌};
 ghost use Rattle.counters.specs.Whole.{reset_counters, sound_of, clock_of, error_of};
 
-use crate::{Counted, Counters};
+use crate::{Counters, Outcome};
 use counters_errors::ErrorCounters;
 use counters_timers::Timers;
+use outcome::Answering;
 
 impl Counters {
     // The counters as power-on leaves them.
@@ -28,28 +29,22 @@ impl Counters {
     }
 
     // One clock.
-    pub fn clock(mut self) -> Counted
+    pub fn clock(mut self) -> Outcome
         ensures { result ≡ clock_of self }
     {
         let out = self.timers.clock();
-        let next = out.timers;
-        self.timers = next;
-        Counted {
-            counters: self,
-            answer: out.answer,
-            refusal: 0,
-        }
+        self.timers = out.timers;
+        self.accept(out.answer)
     }
 
     // One error in the counter that an address names.
-    pub fn count_error(mut self, address: u32) -> Counted
+    pub fn count_error(mut self, address: u32) -> Outcome
         ensures { result ≡ error_of self address }
     {
         let out = self.errors.count_error(address);
-        let next = out.counters;
-        self.errors = next;
-        Counted {
-            counters: self,
+        self.errors = out.machine;
+        Outcome {
+            machine: self,
             answer: out.answer,
             refusal: out.refusal,
         }

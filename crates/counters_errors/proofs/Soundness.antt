@@ -49,10 +49,10 @@ unfolding held_of
 held-sound c i v s =
     put-sound c i (held_of v) s (rw (parts.made (held_threshold (v / 2 ^ 27)) (v % 2 ^ 27) (omega arith)).threshold (held_small (v / 2 ^ 27) refl))
 
-pub error-sound : (c : ErrorCounters) (a : ℕ) → errors_sound c ≡ true → errors_sound (error_of c a).counters ≡ true
+pub error-sound : (c : ErrorCounters) (a : ℕ) → errors_sound c ≡ true → errors_sound (error_of c a).machine ≡ true
 unfolding error_of
 error-sound c a s = go (may_count a)
   where
-    go : (t : Bool) → errors_sound (cond t (error_counted c a) (error_refused c)).counters ≡ true
+    go : (t : Bool) → errors_sound (cond t (error_counted c a) (error_refused c)).machine ≡ true
     go true = put-sound c a (after_error c a) s (rw (counts_each (error_at c a)).threshold (facts c s a))
     go false = s

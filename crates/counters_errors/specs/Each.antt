@@ -65,8 +65,8 @@ AnswersInRuns = (t : ℕ) → t ≤ 26 → Runs t
 -- One error in counter i: it is counted there, the other two stay, and the answer is the counter's bit afterwards.
 pub record CountedOne (c : ErrorCounters) (i : ℕ) : Type 0 where
   pub accepts : error_of c i ≡ error_counted c i
-  pub counter : error_at (error_of c i).counters i ≡ after_error c i
-  pub others : (j : ℕ) → (j ≡ i → ⊥) → error_at (error_of c i).counters j ≡ error_at c j
+  pub counter : error_at (error_of c i).machine i ≡ after_error c i
+  pub others : (j : ℕ) → (j ≡ i → ⊥) → error_at (error_of c i).machine j ≡ error_at c j
 
 abbrev pub CountedEach : Type 0
 CountedEach = (c : ErrorCounters) (i : ℕ) → i < 3 → CountedOne c i

@@ -2,7 +2,8 @@
 use Rattle.std.specs.Prelude.{ℕ, zero, suc, ◌+◌, ◌*◌, ◌/◌, ◌%◌, ◌^◌, Bool, cond, ◌&&◌, leb}
 use Rattle.counters_errors.specs.declared.ErrorCounter.{ErrorCounter}
 use Rattle.counters_errors.specs.declared.ErrorCounters.{ErrorCounters}
-use Rattle.counters_errors.specs.declared.ErrorOutcome.{ErrorOutcome}
+use Rattle.counters_errors.specs.Outcome.{Outcome}
+use Rattle.outcome.specs.Outcomes.{accepted_with, refused_with}
 
 -- "Bits 31:27 are the threshold, 26:0 the count." A counter is held as its register is read.
 abbrev pub threshold_in : ErrorCounter → ℕ
@@ -59,15 +60,15 @@ errors_sound c = error_sound c.micect && error_sound c.miccmect && error_sound c
 abbrev pub may_count : ℕ → Bool
 may_count a = leb a 2
 
-abbrev pub error_refused : ErrorCounters → ErrorOutcome
-error_refused c = record { counters = c; answer = 0; refusal = 25 }
+abbrev pub error_refused : ErrorCounters → Outcome
+error_refused c = refused_with c 25
 
 -- "Kind 11 counts one error in the counter that its address names." "The answer is 1 when the count bit that the threshold selects is 1 afterwards, else 0."
 abbrev pub after_error : ErrorCounters → ℕ → ErrorCounter
 after_error c i = counted (error_at c i)
 
-abbrev pub error_counted : ErrorCounters → ℕ → ErrorOutcome
-error_counted c i = record { counters = with_error c i (after_error c i); answer = selected_bit (after_error c i); refusal = 0 }
+abbrev pub error_counted : ErrorCounters → ℕ → Outcome
+error_counted c i = accepted_with (with_error c i (after_error c i)) (selected_bit (after_error c i))
 
-unfoldable pub error_of : ErrorCounters → ℕ → ErrorOutcome
+unfoldable pub error_of : ErrorCounters → ℕ → Outcome
 error_of c a = cond (may_count a) (error_counted c a) (error_refused c)

@@ -1,3 +1,4 @@
 -- The rules of the error counters.
+pub mod Outcome
 pub mod Errors
 pub mod Each

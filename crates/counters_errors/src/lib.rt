@@ -4,6 +4,8 @@
 mod one;
 mod three;
 
+use outcome::Answering;
+
 // An error counter, as its register holds it: bits 31:27 the threshold, 26:0 the count.
 #[derive(Clone, Copy)]
 pub struct ErrorCounter(pub u32);
@@ -16,10 +18,7 @@ pub struct ErrorCounters {
     pub mdccmect: ErrorCounter,
 }
 
-// What an error hands back. The answer is the bit that the threshold selects; a refused error answers 0 and hands back the counters as they were.
-#[derive(Clone, Copy)]
-pub struct ErrorOutcome {
-    pub counters: ErrorCounters,
-    pub answer: u32,
-    pub refusal: u8,
-}
+// What an error hands back. The answer is the bit that the threshold selects.
+pub type Outcome = outcome::Outcome<ErrorCounters>;
+
+impl Answering for ErrorCounters {}

@@ -3,7 +3,8 @@
 ghost use Rattle.std.specs.Prelude.{◌≡◌};
 ghost use Rattle.counters_errors.specs.Errors.{error_at, with_error, reset_errors, errors_sound, error_of};
 
-use crate::{ErrorCounter, ErrorCounters, ErrorOutcome};
+use crate::{ErrorCounter, ErrorCounters, Outcome};
+use outcome::Answering;
 
 impl ErrorCounters {
     // The error counters as power-on leaves them.
@@ -61,23 +62,15 @@ impl ErrorCounters {
     }
 
     // One error in the counter that an address names. Question 25 is asked first.
-    pub fn count_error(self, address: u32) -> ErrorOutcome
+    pub fn count_error(self, address: u32) -> Outcome
         ensures { result ≡ error_of self address }
     {
         if 2 < address {
-            return ErrorOutcome {
-                counters: self,
-                answer: 0,
-                refusal: 25,
-            };
+            return self.refuse(25);
         }
         let i = address as u8;
         let e = self.counter(i);
         let next = e.counted();
-        ErrorOutcome {
-            counters: self.with_counter(i, next),
-            answer: next.selected_bit(),
-            refusal: 0,
-        }
+        self.with_counter(i, next).accept(next.selected_bit())
     }
 }
