@@ -1,9 +1,12 @@
 -- What the code's questions show, in the words of the rules.
-use mathlib.Core.Path.{◌≡◌, sym, ◌∙◌}
-use mathlib.Core.Bool.{Bool, true, false, not}
+use mathlib.Core.Path.{◌≡◌, refl, sym, ◌∙◌}
+use mathlib.Core.Bool.{Bool, true, false, not, cond}
 use borrow.Author.Tests.{not-true, not-false}
 use Rattle.handlers.specs.declared.Machine.{Machine}
+use Rattle.handlers.specs.Outcome.{Outcome}
 use Rattle.handlers.specs.Machines.{sound_of}
+use Rattle.handlers.specs.Service.{refused}
+use Rattle.handlers.specs.Calls.{sound_first}
 
 -- `if !r`, where r is the answer to a question.
 module _ (question : Bool) {r : Bool} (e : r ≡ question) where
@@ -20,3 +23,11 @@ module _ (m : Machine) where
 
   pub is-sound : {r : Bool} → r ≡ sound_of m → not r ≡ false → sound_of m ≡ true
   is-sound = answered-yes (sound_of m)
+
+-- Question 8 as the code asks it, of an event that answers e where the machine is sound.
+pub sound-first : (m : Machine) (e : Outcome) {r : Outcome} → (sound_of m ≡ true → r ≡ e) → (sound_of m ≡ false → r ≡ refused m 8) → r ≡ sound_first m e
+sound-first m e {r} = go (sound_of m)
+  where
+    go : (t : Bool) → (t ≡ true → r ≡ e) → (t ≡ false → r ≡ refused m 8) → r ≡ cond t e (refused m 8)
+    go true asked refused-8 = asked refl
+    go false asked refused-8 = refused-8 refl

@@ -1,4 +1,5 @@
 -- The rules of the machine and the handler service, in the order of document 01.
+pub mod Outcome
 pub mod Fields
 pub mod Machines
 pub mod Service

@@ -17,7 +17,7 @@ uppermost m = service.uppermost m.service
 unfoldable pub power_on_of : ℕ → Outcome
 power_on_of n =
     record {
-      machine = record { service = service.no_handlers; counters = counters.reset_counters; controller = (calls.power_on_of n).controller };
+      machine = record { service = service.no_handlers; counters = counters.reset_counters; controller = (calls.power_on_of n).machine };
       answer = 0;
       refusal = (calls.power_on_of n).refusal;
     }

@@ -9,7 +9,8 @@ use Rattle.pic.specs.Outcome as controller
 use Rattle.pic.specs.Calls.{priority_order, current_rank, set_current, capture_of, look_of}
 use Rattle.pic_registers.specs.Calls as registers
 use Rattle.pic_csrs.specs.Calls as csrs
-use Rattle.counters.specs.declared.Counted.{Counted}
+use Rattle.outcome.specs.Outcomes.{accepted_with, refused_with}
+use Rattle.counters.specs.Outcome as counted
 use Rattle.counters.specs.Whole as whole
 use Rattle.counters.specs.Csrs as counters
 use Rattle.handlers_service.specs.Outcome as handler
@@ -22,11 +23,11 @@ use Rattle.handlers.specs.Machines.{uppermost}
 
 -- An accepted event hands back a machine and its answer, with no refusal.
 abbrev pub accepted : Machine → ℕ → Outcome
-accepted m a = record { machine = m; answer = a; refusal = 0 }
+accepted m a = accepted_with m a
 
 -- A refused event answers 0 and the number, and leaves the machine as it was.
 abbrev pub refused : Machine → ℕ → Outcome
-refused m q = record { machine = m; answer = 0; refusal = q }
+refused m q = refused_with m q
 
 -- A question: no is the refusal q, yes goes on.
 abbrev pub ask : Machine → Bool → ℕ → Outcome → Outcome
@@ -34,7 +35,7 @@ ask m answer q on = cond answer on (refused m q)
 
 -- What the controller answers to an event of its own, with the controller that it hands back.
 abbrev pub lifted : Machine → controller.Outcome → Outcome
-lifted m o = record { machine = with_controller m o.controller; answer = o.answer; refusal = o.refusal }
+lifted m o = record { machine = with_controller m o.machine; answer = o.answer; refusal = o.refusal }
 
 -- Sample, load: the controller's own questions.
 unfoldable pub sample_event : Machine → ℕ → ℕ → Outcome
@@ -82,7 +83,7 @@ look_at m = look_of m.controller
 
 -- What the handler service answers. An accepted event leaves the service that it hands back, and this controller; a refused one leaves the machine as it was.
 abbrev pub served_with : Machine → handler.Outcome → Controller → Outcome
-served_with m o c = cond (eqb o.refusal 0) (accepted (with_controller (with_service m o.service) c) o.answer) (refused m o.refusal)
+served_with m o c = cond (eqb o.refusal 0) (accepted (with_controller (with_service m o.machine) c) o.answer) (refused m o.refusal)
 
 -- The controller with its winner captured.
 abbrev pub captured_in : Machine → Controller
@@ -112,8 +113,8 @@ unfoldable pub set_mask_event : Machine → ℕ → Outcome
 set_mask_event m v = served_with m (service.set_mask_of m.service v) m.controller
 
 -- What the counters answer to a clock or an error, with the counters that they hand back.
-abbrev pub counted_in : Machine → Counted → Outcome
-counted_in m o = record { machine = with_counters m o.counters; answer = o.answer; refusal = o.refusal }
+abbrev pub counted_in : Machine → counted.Outcome → Outcome
+counted_in m o = record { machine = with_counters m o.machine; answer = o.answer; refusal = o.refusal }
 
 -- Clock: it is asked nothing more, and changes the timers alone. Answer: bit 0 for timer 0, bit 1 for timer 1.
 unfoldable pub clock_event : Machine → Outcome

@@ -1,159 +1,130 @@
 // The published events of the machine, an event of any kind, and the margin query. Each asks question 8 first.
 
-ghost use Rattle.std.specs.Prelude.{◌≡◌};
+ghost use Rattle.std.specs.Prelude.{◌≡◌, true, false};
+ghost use Rattle.handlers.specs.Machines.{sound_of};
+ghost use Rattle.handlers.specs.Service.{refused};
 ghost use Rattle.handlers.specs.Calls.{sample_of, load_of, store_of, csr_read_of, csr_write_of, take_of, open_of, chain_of, return_of, set_mask_of, clock_of, error_of, look_of, commit_of, step_of, margin_answer};
 
 use crate::{Machine, Margin, Outcome};
+use outcome::Answering;
 
 impl Machine {
+    // Question 8 comes first; the event is asked and played where the machine is sound.
+    fn when_sound<F: FnOnce(Machine) -> Outcome>(self, event: F) -> Outcome
+        requires { F.pre event self }
+        ensures asked { sound_of self ≡ true → F.post event self result }
+        ensures refused { sound_of self ≡ false → result ≡ refused self 8 }
+    {
+        if self.is_sound() {
+            event(self)
+        } else {
+            self.refuse(8)
+        }
+    }
+
     // The lines of word x take the bits of v.
     pub fn sample(mut self, x: u32, v: u32) -> Outcome
         ensures { result ≡ sample_of self x v }
     {
-        if !self.is_sound() {
-            return self.refuse(8);
-        }
-        self.sample_event(x, v)
+        self.when_sound(|m| m.sample_event(x, v))
     }
 
     // A load of the word at an offset.
     pub fn load(mut self, offset: u32) -> Outcome
         ensures { result ≡ load_of self offset }
     {
-        if !self.is_sound() {
-            return self.refuse(8);
-        }
-        self.load_event(offset)
+        self.when_sound(|m| m.load_event(offset))
     }
 
     // A store of the word v at an offset.
     pub fn store(mut self, offset: u32, v: u32) -> Outcome
         ensures { result ≡ store_of self offset v }
     {
-        if !self.is_sound() {
-            return self.refuse(8);
-        }
-        self.store_event(offset, v)
+        self.when_sound(|m| m.store_event(offset, v))
     }
 
     // A read of a CSR.
     pub fn csr_read(mut self, address: u32) -> Outcome
         ensures { result ≡ csr_read_of self address }
     {
-        if !self.is_sound() {
-            return self.refuse(8);
-        }
-        self.csr_read_event(address)
+        self.when_sound(|m| m.csr_read_event(address))
     }
 
     // A write of v to a CSR.
     pub fn csr_write(mut self, address: u32, v: u32) -> Outcome
         ensures { result ≡ csr_write_of self address v }
     {
-        if !self.is_sound() {
-            return self.refuse(8);
-        }
-        self.csr_write_event(address, v)
+        self.when_sound(|m| m.csr_write_event(address, v))
     }
 
     // Serves the winner: it is pushed, unopened, with the current rank as saved.
     pub fn take(mut self) -> Outcome
         ensures { result ≡ take_of self }
     {
-        if !self.is_sound() {
-            return self.refuse(8);
-        }
-        self.take_event()
+        self.when_sound(|m| m.take_event())
     }
 
     // Opens the uppermost handler: it can be interrupted again by a higher rank.
     pub fn open(mut self) -> Outcome
         ensures { result ≡ open_of self }
     {
-        if !self.is_sound() {
-            return self.refuse(8);
-        }
-        self.open_event()
+        self.when_sound(|m| m.open_event())
     }
 
     // Serves the winner in the uppermost handler's place, if it is of that handler's rank and above the threshold; else answers 0.
     pub fn chain(mut self) -> Outcome
         ensures { result ≡ chain_of self }
     {
-        if !self.is_sound() {
-            return self.refuse(8);
-        }
-        self.chain_event()
+        self.when_sound(|m| m.chain_event())
     }
 
     // Ends the uppermost handler, and puts back the current rank that its taking found.
     pub fn return_from(mut self) -> Outcome
         ensures { result ≡ return_of self }
     {
-        if !self.is_sound() {
-            return self.refuse(8);
-        }
-        self.return_event()
+        self.when_sound(|m| m.return_event())
     }
 
     // Sets the mask to the value.
     pub fn set_mask(mut self, v: u32) -> Outcome
         ensures { result ≡ set_mask_of self v }
     {
-        if !self.is_sound() {
-            return self.refuse(8);
-        }
-        self.set_mask_event(v)
+        self.when_sound(|m| m.set_mask_event(v))
     }
 
     // One clock of the timers.
     pub fn clock(mut self) -> Outcome
         ensures { result ≡ clock_of self }
     {
-        if !self.is_sound() {
-            return self.refuse(8);
-        }
-        self.clock_event()
+        self.when_sound(|m| m.clock_event())
     }
 
     // One error in the counter that the address names, 0 to 2.
     pub fn count_error(mut self, address: u32) -> Outcome
         ensures { result ≡ error_of self address }
     {
-        if !self.is_sound() {
-            return self.refuse(8);
-        }
-        self.error_event(address)
+        self.when_sound(|m| m.error_event(address))
     }
 
     // The source that a chain would serve now, or 0. Nothing is changed.
     pub fn look(mut self) -> Outcome
         ensures { result ≡ look_of self }
     {
-        if !self.is_sound() {
-            return self.refuse(8);
-        }
-        self.look_event()
+        self.when_sound(|m| m.look_event())
     }
 
     // Serves this source in the uppermost handler's place, if it is what a look would answer now.
     pub fn commit(mut self, source: u32) -> Outcome
         ensures { result ≡ commit_of self source }
     {
-        if !self.is_sound() {
-            return self.refuse(8);
-        }
-        self.commit_event(source)
+        self.when_sound(|m| m.commit_event(source))
     }
 
     // One event, a head and a value: the machine that it hands back, its answer and its refusal.
     pub fn step(mut self, head: u32, value: u32) -> Outcome
         ensures { result ≡ step_of self head value }
     {
-        if !self.is_sound() {
-            return self.refuse(8);
-        }
-        self.sound_step(head, value)
+        self.when_sound(|m| m.sound_step(head, value))
     }
 
     // The margin: the winner's rank minus the larger of threshold and current.

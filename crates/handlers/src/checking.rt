@@ -4,6 +4,7 @@ ghost use Rattle.std.specs.Prelude.{◌≡◌};
 ghost use Rattle.handlers.specs.Checked.{start_of, enter_of, checked_step_of};
 
 use crate::{Checked, CheckedOutcome, Machine};
+use outcome::Answering;
 
 impl Checked {
     // The machine at power-on with n sources; where n is not 2..255, refusal 2 and the machine of 2 sources.
@@ -11,9 +12,10 @@ impl Checked {
         ensures { result ≡ start_of n }
     {
         let on = Machine::power_on(n);
-        let m = on.machine;
         CheckedOutcome {
-            checked: Checked { machine: m },
+            machine: Checked {
+                machine: on.machine,
+            },
             answer: 0,
             refusal: on.refusal,
         }
@@ -24,19 +26,13 @@ impl Checked {
         ensures { result ≡ enter_of m }
     {
         if m.is_sound() {
-            return CheckedOutcome {
-                checked: Checked { machine: m },
-                answer: 0,
-                refusal: 0,
-            };
+            return Checked { machine: m }.accept(0);
         }
         let on = Machine::power_on(2);
-        let z = on.machine;
-        CheckedOutcome {
-            checked: Checked { machine: z },
-            answer: 0,
-            refusal: 8,
+        Checked {
+            machine: on.machine,
         }
+        .refuse(8)
     }
 
     // The machine m in this one's place. A function of its own: stored by `step` itself, the compiler copies the machine once more for each event.
@@ -53,7 +49,7 @@ impl Checked {
     {
         let out = self.machine.sound_step(head, value);
         CheckedOutcome {
-            checked: self.with_machine(out.machine),
+            machine: self.with_machine(out.machine),
             answer: out.answer,
             refusal: out.refusal,
         }

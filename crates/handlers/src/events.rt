@@ -5,10 +5,11 @@ ghost use Rattle.handlers.specs.Fields.{with_controller, with_counters};
 ghost use Rattle.handlers.specs.Service.{lifted, sample_event, load_event, store_event, csr_read_event, controller_write, csr_write_event, counted_in, clock_event, error_event, sound_step_of};
 
 use crate::{Machine, Outcome};
+use counters::Counters;
 use counters::csrs::{csr_at, is_csr};
-use counters::{Counted, Counters};
 use event::kinds;
 use handlers_questions::{may_store, may_write};
+use outcome::Answering;
 use pic::Controller;
 
 impl Machine {
@@ -33,7 +34,7 @@ impl Machine {
         ensures { result ≡ lifted self out }
     {
         Outcome {
-            machine: self.with_controller(out.controller),
+            machine: self.with_controller(out.machine),
             answer: out.answer,
             refusal: out.refusal,
         }
@@ -98,11 +99,11 @@ impl Machine {
     }
 
     // The machine with the counters that a clock or an error handed back.
-    fn count(self, counted: Counted) -> Outcome
+    fn count(self, counted: counters::Outcome) -> Outcome
         ensures { result ≡ counted_in self counted }
     {
         Outcome {
-            machine: self.with_counters(counted.counters),
+            machine: self.with_counters(counted.machine),
             answer: counted.answer,
             refusal: counted.refusal,
         }

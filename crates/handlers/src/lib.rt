@@ -9,6 +9,7 @@ mod sound;
 
 use counters::Counters;
 use handlers_service::Service;
+use outcome::Answering;
 use pic::Controller;
 
 // The machine. The controller stands last: an event of the player then costs a copy of it less.
@@ -19,13 +20,10 @@ pub struct Machine {
     pub controller: Controller,
 }
 
-// What an event hands back. A refused one answers 0 and hands back the machine as it was.
-#[derive(Clone, Copy)]
-pub struct Outcome {
-    pub machine: Machine,
-    pub answer: u32,
-    pub refusal: u8,
-}
+// What an event hands back.
+pub type Outcome = outcome::Outcome<Machine>;
+
+impl Answering for Machine {}
 
 // What the margin query answers.
 #[derive(Clone, Copy)]
@@ -41,9 +39,6 @@ pub struct Checked {
 }
 
 // What power-on, entering a machine and an event hand back.
-#[derive(Clone, Copy)]
-pub struct CheckedOutcome {
-    pub checked: Checked,
-    pub answer: u32,
-    pub refusal: u8,
-}
+pub type CheckedOutcome = outcome::Outcome<Checked>;
+
+impl Answering for Checked {}

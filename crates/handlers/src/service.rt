@@ -5,6 +5,7 @@ ghost use Rattle.std.specs.Prelude.{◌≡◌};
 ghost use Rattle.handlers.specs.Service.{served_with, take_event, open_event, chain_event, return_event, set_mask_event, look_event, commit_event};
 
 use crate::{Machine, Outcome};
+use outcome::Answering;
 use pic::Controller;
 
 impl Machine {
@@ -15,8 +16,7 @@ impl Machine {
         if out.refusal != 0 {
             return self.refuse(out.refusal);
         }
-        let s = out.service;
-        self.service = s;
+        self.service = out.machine;
         self.controller = c;
         self.accept(out.answer)
     }

@@ -1,8 +1,7 @@
-// Power-on, whether a machine is sound, and how an event is accepted or refused.
+// Power-on, and whether a machine is sound.
 
 ghost use Rattle.std.specs.Prelude.{◌≡◌};
 ghost use Rattle.handlers.specs.Machines.{power_on_of, sound_of};
-ghost use Rattle.handlers.specs.Service.{accepted, refused};
 
 use crate::{Machine, Outcome};
 use counters::Counters;
@@ -10,32 +9,12 @@ use handlers_service::Service;
 use pic::Controller;
 
 impl Machine {
-    pub(crate) fn refuse(self, q: u8) -> Outcome
-        ensures { result ≡ refused self q }
-    {
-        Outcome {
-            machine: self,
-            answer: 0,
-            refusal: q,
-        }
-    }
-
-    pub(crate) fn accept(self, a: u32) -> Outcome
-        ensures { result ≡ accepted self a }
-    {
-        Outcome {
-            machine: self,
-            answer: a,
-            refusal: 0,
-        }
-    }
-
     // The machine at power-on with n sources; where n is not 2..255, refusal 2 and the machine of 2 sources.
     pub fn power_on(n: u32) -> Outcome
         ensures { result ≡ power_on_of n }
     {
         let on = Controller::power_on(n);
-        let c = on.controller;
+        let c = on.machine;
         let s = Service::reset();
         let t = Counters::reset();
         let m = Machine {

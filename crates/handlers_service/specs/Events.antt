@@ -1,6 +1,7 @@
 -- Document 01, "Handler service", and the questions 15 to 21; document 02, No. 7: what each event does with mask and stack, and what it answers. The controller is
 -- known by a look at its sources and by its current rank. The rules are total: on a service that is not sound they say what the code does.
 use Rattle.std.specs.Prelude.{ℕ, ◌+◌, ◌-◌, ◌%◌, ◌^◌, Bool, cond, ◌&&◌, ◌||◌, pos, ◌==◌, int_lt, nat_le, nat_lt, slice_set}
+use Rattle.outcome.specs.Outcomes.{accepted_with, refused_with}
 use Rattle.pic.specs.declared.Look.{Look}
 use Rattle.pic_source.specs.declared.Rank.{Rank}
 use Rattle.pic_comparator.specs.declared.Winner.{Winner}
@@ -13,11 +14,11 @@ use Rattle.handlers_service.specs.Sound.{uppermost, is_open}
 
 -- An accepted event hands back a service and its answer, with no refusal.
 abbrev pub accepted : Service → ℕ → Outcome
-accepted s a = record { service = s; answer = a; refusal = 0 }
+accepted s a = accepted_with s a
 
 -- A refused event answers 0 and the number, and leaves the service as it was.
 abbrev pub refused : Service → ℕ → Outcome
-refused s q = record { service = s; answer = 0; refusal = q }
+refused s q = refused_with s q
 
 -- A question: no is the refusal q, yes goes on.
 abbrev pub ask : Service → Bool → ℕ → Outcome → Outcome

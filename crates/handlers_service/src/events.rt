@@ -6,6 +6,7 @@ ghost use Rattle.handlers_service.specs.Events.{pushed, take_of, with_uppermost,
 use crate::{Outcome, Service};
 use handlers_questions::may_commit;
 use handlers_stack::{Handler, put};
+use outcome::Answering;
 use pic::Look;
 use pic_comparator::Winner;
 use pic_source::Rank;

@@ -6,6 +6,7 @@ mod events;
 mod sound;
 
 use handlers_stack::Handler;
+use outcome::Answering;
 
 // The mask, 0 interrupts off, 1 on, and the handlers. Places of the stack from depth up mean nothing.
 #[derive(Clone, Copy)]
@@ -15,10 +16,7 @@ pub struct Service {
     pub stack: [Handler; 15],
 }
 
-// What an event hands back. A refused one answers 0 and hands back the service as it was.
-#[derive(Clone, Copy)]
-pub struct Outcome {
-    pub service: Service,
-    pub answer: u32,
-    pub refusal: u8,
-}
+// What an event hands back.
+pub type Outcome = outcome::Outcome<Service>;
+
+impl Answering for Service {}

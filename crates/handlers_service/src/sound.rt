@@ -1,34 +1,13 @@
-// The service with no handler, whether a service is sound, and how an event is accepted or refused.
+// The service with no handler, and whether a service is sound.
 
 ghost use Rattle.std.specs.Prelude.{◌≡◌};
 ghost use Rattle.handlers_service.specs.Sound.{no_handlers, sound_of, uppermost as uppermost_handler};
-ghost use Rattle.handlers_service.specs.Events.{accepted, refused};
 
-use crate::{Outcome, Service};
+use crate::Service;
 use handlers_stack::{Handler, handlers_sound, level, no_handler, uppermost};
 use pic_source::Rank;
 
 impl Service {
-    pub(crate) fn refuse(self, q: u8) -> Outcome
-        ensures { result ≡ refused self q }
-    {
-        Outcome {
-            service: self,
-            answer: 0,
-            refusal: q,
-        }
-    }
-
-    pub(crate) fn accept(self, a: u32) -> Outcome
-        ensures { result ≡ accepted self a }
-    {
-        Outcome {
-            service: self,
-            answer: a,
-            refusal: 0,
-        }
-    }
-
     // The service at power-on.
     pub fn reset() -> Service
         ensures { result ≡ no_handlers }

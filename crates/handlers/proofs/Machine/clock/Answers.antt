@@ -1,11 +1,9 @@
+use borrow.Author.Rules.{rules}
 use Rattle.handlers.specs.Calls.{clock_of}
-use Rattle.handlers.proofs.Answers.{unsound, is-sound}
+use Rattle.handlers.specs.Service.{clock_event}
+use Rattle.handlers.proofs.Answers.{sound-first}
 use Rattle.handlers.proofs.Machine.clock.Goals as goal
-
-pub returns-then-not-is_sound : goal.returns-then-not-is_sound
-unfolding clock_of
-returns-then-not-is_sound c = rw (unsound _ c.is_sound.ensures c.if-not-is_sound.true-raw) c.refuse.ensures
 
 pub returns : goal.returns
 unfolding clock_of
-returns c = rw (is-sound _ c.is_sound.ensures c.if-not-is_sound.false-raw) c.clock_event.ensures
+returns c = sound-first _ (clock_event c.args.self) (λ h. let p = c.when_sound.ensures.asked h in search rules) c.when_sound.ensures.refused
