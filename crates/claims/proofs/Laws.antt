@@ -161,8 +161,8 @@ module _ (m : Machine) (r : sound_of m ≡ true) where
               restored = ap (λ (z : Rank). z.0) (current-is m.controller (uppermost m).saved (saved-small m sound-here (ltb-true 0 m.service.depth f)));
             };
         masks = λ f g. other-does 9 (accepted (with_mask m v) 0) refl refl;
-        clocks = counters-do 10 (whole.clock_of m.counters).counters (whole.clock_of m.counters).answer refl;
-        errors = λ f. counters-do 11 (whole.error_of m.counters a).counters (whole.error_of m.counters a).answer refl;
+        clocks = counters-do 10 (whole.clock_of m.counters).machine (whole.clock_of m.counters).answer refl;
+        errors = λ f. counters-do 11 (whole.error_of m.counters a).machine (whole.error_of m.counters a).answer refl;
         looks = other-does 12 (accepted m (next_source m)) refl refl;
         commits = λ f e. (chained-swaps (ltb-true 0 m.service.depth f) e).1;
       })

@@ -33,7 +33,7 @@ pub fn play(
     ensures claimed { Claimed n (take result.events heads.now) (take result.events values.now) result.machine }
 {
     let on = Checked::start(n);
-    let mut m = on.checked;
+    let mut m = on.machine;
     let k = lesser(
         lesser(heads.len(), values.len()),
         lesser(answers.len(), refusals.len()),
@@ -43,7 +43,7 @@ pub fn play(
         let out = m.step(heads[i], values[i]);
         answers[i] = out.answer;
         refusals[i] = out.refusal;
-        m = out.checked;
+        m = out.machine;
         i += 1;
     }
     Played {

@@ -41,8 +41,8 @@ pub record Cases (m : Machine) (a v : ℕ) (P : ℕ → Outcome → Type 0) : Ty
   pub passes : P 7 (accepted (captured m) 0)
   pub returns : has_handler m ≡ true → P 8 (accepted (returned m) (m.service.depth - 1))
   pub masks : leb v 1 ≡ true → (eqb v 0 || is_open m) ≡ true → P 9 (accepted (with_mask m v) 0)
-  pub clocks : P 10 (accepted (with_counters m (whole.clock_of m.counters).counters) (whole.clock_of m.counters).answer)
-  pub errors : may_count a ≡ true → P 11 (accepted (with_counters m (whole.error_of m.counters a).counters) (whole.error_of m.counters a).answer)
+  pub clocks : P 10 (accepted (with_counters m (whole.clock_of m.counters).machine) (whole.clock_of m.counters).answer)
+  pub errors : may_count a ≡ true → P 11 (accepted (with_counters m (whole.error_of m.counters a).machine) (whole.error_of m.counters a).answer)
   pub looks : P 12 (accepted m (next_source m))
   pub commits : has_handler m ≡ true → serves m ≡ true → P 13 (served m)
 
@@ -56,7 +56,7 @@ commit-served m s e = go (serves m) refl (and_parts (not (eqb s 0)) (eqb s (next
 
 -- An error is refused with 25, or is counted.
 pub error-event : (m : Machine) (a : ℕ)
-    → error_event m a ≡ ask m (may_count a) 25 (accepted (with_counters m (whole.error_of m.counters a).counters) (whole.error_of m.counters a).answer)
+    → error_event m a ≡ ask m (may_count a) 25 (accepted (with_counters m (whole.error_of m.counters a).machine) (whole.error_of m.counters a).answer)
 unfolding error_event
 error-event m a =
     ⊎_elim (λ l. rw (le-leb a 2 l, (counted-each m.counters.errors a (omega (arith, l))).accepts)) (λ l. rw (lt-leb a 2 l, refused-above m.counters.errors a l))

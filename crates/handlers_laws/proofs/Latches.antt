@@ -39,11 +39,11 @@ latches-follow m head v e accepted s a b =
     (record {
       refuses = λ k q n z. absurd (n z);
       samples = sample-follows c (sound-controller m e s a b) s a b o v;
-      loads = λ z. same m e s a b (registers.load_of c o).controller (load_same c o);
+      loads = λ z. same m e s a b (registers.load_of c o).machine (load_same c o);
       stores = λ f. store-follows c (sound-controller m e s a b) s a b o v;
-      reads = λ z. same m e s a b (csrs.csr_read_of c o).controller (csr-read-same c o);
+      reads = λ z. same m e s a b (csrs.csr_read_of c o).machine (csr-read-same c o);
       counter-reads = λ f z. quiet m e s a b c refl;
-      writes = λ f z. quiet m e s a b (csrs.csr_write_of c o v).controller (csr-write-arrays c o v);
+      writes = λ f z. quiet m e s a b (csrs.csr_write_of c o v).machine (csr-write-arrays c o v);
       counter-writes = λ f z. quiet m e s a b c refl;
       takes = λ f g z. quiet m e s a b (capture_of c (look_at m).winner) (capture-arrays c (look_at m).winner);
       opens = λ f z. quiet m e s a b (set_current c (uppermost m).rank) (current-arrays c (uppermost m).rank);

@@ -28,11 +28,11 @@ step_stays m head v s =
     (record {
       refuses = λ k q n. arrays-stay c s c refl;
       samples = sample-stays c s o v;
-      loads = arrays-stay c s (registers.load_of c o).controller (ap arrays_of (load_same c o));
+      loads = arrays-stay c s (registers.load_of c o).machine (ap arrays_of (load_same c o));
       stores = λ f. store-stays c s v refl;
-      reads = arrays-stay c s (csrs.csr_read_of c o).controller (ap arrays_of (csr-read-same c o));
+      reads = arrays-stay c s (csrs.csr_read_of c o).machine (ap arrays_of (csr-read-same c o));
       counter-reads = λ f. arrays-stay c s c refl;
-      writes = λ f. arrays-stay c s (csrs.csr_write_of c o v).controller (csr-write-arrays c o v);
+      writes = λ f. arrays-stay c s (csrs.csr_write_of c o v).machine (csr-write-arrays c o v);
       counter-writes = λ f. arrays-stay c s c refl;
       takes = λ f g. arrays-stay c s (capture_of c (look_at m).winner) (capture-arrays c (look_at m).winner);
       opens = λ f. arrays-stay c s (set_current c (uppermost m).rank) (current-arrays c (uppermost m).rank);

@@ -34,7 +34,7 @@ pub loop-i-init : goal.loop-i-init
 unfolding end_of each_of
 loop-i-init c =
     let n = c.args.n in
-    let e : c.start-on.result.checked.machine ≡ (power_on_of n).machine = rw c.start-on.ensures (start-machine n) in (
+    let e : c.start-on.result.machine.machine ≡ (power_on_of n).machine = rw c.start-on.ensures (start-machine n) in (
       search rules,
       rw (c.lesser-k.ensures, c.lesser-2.ensures, c.lesser.ensures) (count_fits _ _ _ _),
       refl,
