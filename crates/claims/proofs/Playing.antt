@@ -151,14 +151,6 @@ module _ (n : ℕ) (hs vs : List ℕ) {m : Machine} {k i : ℕ} (hi : i ≡ k) (
   pub machine-end : m ≡ end_of (power_on_of n).machine (take k hs) (take k vs)
   machine-end = hm ∙ rw hi
 
-  pub played-end : {count q : ℕ} → k ≡ count → q ≡ (power_on_of n).refusal
-      → ◌≡◌ {A = Played} (record { machine = m; events = k; refusal = q }) (played_of n count hs vs)
-  played-end hk hq = rw (machine-end, hq, ← hk)
-
-  pub stored-end : (out : Outcome → ℕ) (old : List ℕ) {l : List ℕ} → l ≡ filled (each_of out (power_on_of n).machine (take i hs) (take i vs)) old
-      → l ≡ filled (each_of out (power_on_of n).machine (take k hs) (take k vs)) old
-  stored-end out old hl = hl ∙ rw hi
-
 -- Values as many as heads, and arrays that hold them: all events are played.
 pub count-all : (a b c d : ℕ) → b ≡ a → a ≤ c → a ≤ d → events_played a b c d ≡ a
 count-all a b c d e h g =

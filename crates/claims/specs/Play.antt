@@ -7,6 +7,7 @@ use Rattle.handlers.specs.Outcome.{Outcome}
 use Rattle.handlers.specs.Machines.{power_on_of}
 use Rattle.handlers.specs.Calls.{step_of}
 use Rattle.claims.specs.declared.Played.{Played}
+use Rattle.claims.specs.declared.machines.Answered.{Answered}
 
 -- The machine after the events, heads beside values.
 unfoldable pub end_of : Machine → List ℕ → List ℕ → Machine
@@ -35,3 +36,7 @@ events_played heads values answers refusals = least (least heads values) (least 
 abbrev pub played_of : ℕ → ℕ → List ℕ → List ℕ → Played
 played_of n k heads values =
     record { machine = end_of (power_on_of n).machine (take k heads) (take k values); events = k; refusal = (power_on_of n).refusal }
+
+-- What an event answers, and what it is refused with.
+abbrev pub answered_of : Machine → ℕ → ℕ → Answered
+answered_of m head value = record { answer = (step_of m head value).answer; refusal = (step_of m head value).refusal }

@@ -1,9 +1,9 @@
 -- Document 01, "The player": a bench that plays a long record lends one machine and has it changed.
 use Rattle.std.specs.Prelude.{ℕ}
 use Rattle.handlers.specs.declared.Machine.{Machine}
-use Rattle.handlers.specs.Calls.{step_of}
-use Rattle.lent_machine.specs.declared.Answered.{Answered}
+use Rattle.claims.specs.declared.machines.Answered.{Answered}
+use Rattle.claims.specs.Play as play
 
 -- What an event answers, and what it is refused with.
 abbrev pub answered_of : Machine → ℕ → ℕ → Answered
-answered_of m head value = record { answer = (step_of m head value).answer; refusal = (step_of m head value).refusal }
+answered_of = play.answered_of
