@@ -43,25 +43,27 @@ impl Machine {
     pub(crate) fn sample_event(self, x: u32, v: u32) -> Outcome
         ensures { result ≡ sample_event self x v }
     {
-        let c = self.controller;
-        self.lift(pic_registers::sample(c, x, v))
+        self.lift(pic_registers::sample(self.controller, x, v))
     }
 
     pub(crate) fn load_event(self, offset: u32) -> Outcome
         ensures { result ≡ load_event self offset }
     {
-        let c = self.controller;
-        self.lift(pic_registers::load(c, offset))
+        self.lift(pic_registers::load(self.controller, offset))
     }
 
     pub(crate) fn store_event(self, offset: u32, v: u32) -> Outcome
         ensures { result ≡ store_event self offset v }
     {
-        let c = self.controller;
-        if !may_store(offset, v, c.priority_order(), self.service.depth) {
+        if !may_store(
+            offset,
+            v,
+            self.controller.priority_order(),
+            self.service.depth,
+        ) {
             return self.refuse(24);
         }
-        self.lift(pic_registers::store(c, offset, v))
+        self.lift(pic_registers::store(self.controller, offset, v))
     }
 
     pub(crate) fn csr_read_event(self, address: u32) -> Outcome
@@ -69,11 +71,9 @@ impl Machine {
     {
         let csr = csr_at(address);
         if is_csr(csr) {
-            let t = self.counters;
-            return self.accept(t.csr_value(csr));
+            return self.accept(self.counters.csr_value(csr));
         }
-        let c = self.controller;
-        self.lift(pic_csrs::csr_read(c, address))
+        self.lift(pic_csrs::csr_read(self.controller, address))
     }
 
     pub(crate) fn csr_write_event(self, address: u32, v: u32) -> Outcome
@@ -81,8 +81,9 @@ impl Machine {
     {
         let csr = csr_at(address);
         if is_csr(csr) {
-            let t = self.counters;
-            return self.with_counters(t.csr_written(csr, v)).accept(0);
+            return self
+                .with_counters(self.counters.csr_written(csr, v))
+                .accept(0);
         }
         self.controller_write(address, v)
     }
@@ -94,8 +95,7 @@ impl Machine {
         if !may_write(address, self.service.depth) {
             return self.refuse(14);
         }
-        let c = self.controller;
-        self.lift(pic_csrs::csr_write(c, address, v))
+        self.lift(pic_csrs::csr_write(self.controller, address, v))
     }
 
     // The machine with the counters that a clock or an error handed back.
@@ -112,15 +112,13 @@ impl Machine {
     pub(crate) fn clock_event(self) -> Outcome
         ensures { result ≡ clock_event self }
     {
-        let t = self.counters;
-        self.count(t.clock())
+        self.count(self.counters.clock())
     }
 
     pub(crate) fn error_event(self, address: u32) -> Outcome
         ensures { result ≡ error_event self address }
     {
-        let t = self.counters;
-        self.count(t.count_error(address))
+        self.count(self.counters.count_error(address))
     }
 
     // One event, a head and a value, on a machine that is known to be sound: 6 and 7, then the event by its kind.

@@ -25,73 +25,59 @@ impl Machine {
     pub(crate) fn take_event(self) -> Outcome
         ensures { result ≡ take_event self }
     {
-        let s = self.service;
-        let c = self.controller;
-        let look = c.look();
-        let out = s.take(look, c.current_rank());
-        self.served(out, c.capture(look.winner))
+        let look = self.controller.look();
+        let out = self.service.take(look, self.controller.current_rank());
+        self.served(out, self.controller.capture(look.winner))
     }
 
     // Opens the uppermost handler: current takes its rank.
     pub(crate) fn open_event(self) -> Outcome
         ensures { result ≡ open_event self }
     {
-        let s = self.service;
-        let c = self.controller;
-        let h = s.uppermost();
-        let out = s.open();
-        self.served(out, c.set_current(h.rank))
+        let h = self.service.uppermost();
+        let out = self.service.open();
+        self.served(out, self.controller.set_current(h.rank))
     }
 
     // Captures the winner, and serves it in the uppermost handler's place if it may.
     pub(crate) fn chain_event(self) -> Outcome
         ensures { result ≡ chain_event self }
     {
-        let s = self.service;
-        let c = self.controller;
-        let look = c.look();
-        let out = s.chain(look);
-        self.served(out, c.capture(look.winner))
+        let look = self.controller.look();
+        let out = self.service.chain(look);
+        self.served(out, self.controller.capture(look.winner))
     }
 
     // Ends the uppermost handler: current takes its saved rank.
     pub(crate) fn return_event(self) -> Outcome
         ensures { result ≡ return_event self }
     {
-        let s = self.service;
-        let c = self.controller;
-        let h = s.uppermost();
-        let out = s.return_from();
-        self.served(out, c.set_current(h.saved))
+        let h = self.service.uppermost();
+        let out = self.service.return_from();
+        self.served(out, self.controller.set_current(h.saved))
     }
 
     // Sets the mask to the value.
     pub(crate) fn set_mask_event(self, v: u32) -> Outcome
         ensures { result ≡ set_mask_event self v }
     {
-        let s = self.service;
-        let c = self.controller;
-        self.served(s.set_mask(v), c)
+        self.served(self.service.set_mask(v), self.controller)
     }
 
     // Answers the source that a chain would serve now, or 0.
     pub(crate) fn look_event(self) -> Outcome
         ensures { result ≡ look_event self }
     {
-        let s = self.service;
-        let c = self.controller;
-        let out = s.look(c.look());
-        self.served(out, c)
+        let out = self.service.look(self.controller.look());
+        self.served(out, self.controller)
     }
 
     // Captures the winner and serves it in the uppermost handler's place, if its source is this one.
     pub(crate) fn commit_event(self, source: u32) -> Outcome
         ensures { result ≡ commit_event self source }
     {
-        let s = self.service;
-        let c = self.controller;
-        let look = c.look();
-        let out = s.commit(look, source);
-        self.served(out, c.capture(look.winner))
+        let look = self.controller.look();
+        let out = self.service.commit(look, source);
+        self.served(out, self.controller.capture(look.winner))
     }
 }

@@ -33,9 +33,10 @@ impl Machine {
     pub fn is_sound(self) -> bool
         ensures { result ≡ sound_of self }
     {
-        let s = self.service;
-        let c = self.controller;
-        let t = self.counters;
-        s.is_sound(c.source_count(), c.current_rank()) & c.is_sound() & t.is_sound()
+        self.service.is_sound(
+            self.controller.source_count(),
+            self.controller.current_rank(),
+        ) & self.controller.is_sound()
+            & self.counters.is_sound()
     }
 }
