@@ -7,7 +7,7 @@ use Rattle.handlers.specs.Outcome.{Outcome}
 use Rattle.handlers.specs.Machines.{power_on_of}
 use Rattle.handlers.specs.Calls.{step_of}
 use Rattle.claims.specs.declared.Played.{Played}
-use Rattle.claims.specs.declared.machines.Answered.{Answered}
+use Rattle.handlers.specs.declared.Answered.{Answered}
 
 -- The machine after the events, heads beside values.
 unfoldable pub end_of : Machine → List ℕ → List ℕ → Machine

@@ -11,7 +11,7 @@ ghost use Rattle.claims.specs.Nested.{Claimed};
 
 use buffers::lesser;
 use handlers::{Checked, Machine};
-pub use machines::{Answered, Plays};
+pub use machines::Plays;
 
 // The end machine, how many events were played, and power-on's refusal.
 #[derive(Clone, Copy)]

@@ -6,15 +6,8 @@ ghost use Rattle.handlers.specs.Machines.{power_on_of, sound_of};
 ghost use Rattle.handlers.specs.Calls.{step_of};
 ghost use Rattle.claims.specs.Play.{answered_of};
 
-use handlers::{Checked, Machine};
+use handlers::{Answered, Checked, Machine};
 use outcome::Outcome;
-
-// What an event answers, and what it is refused with, 0 if it is accepted.
-#[derive(Clone, Copy)]
-pub struct Answered {
-    pub answer: u32,
-    pub refusal: u8,
-}
 
 // What plays a list: power-on makes it, each event changes it, and it hands back its machine.
 pub trait Plays: Sized {
@@ -52,12 +45,7 @@ impl Plays for Checked {
     }
 
     fn advance(&mut self, head: u32, value: u32) -> Answered {
-        let out = self.step(head, value);
-        *self = out.machine;
-        Answered {
-            answer: out.answer,
-            refusal: out.refusal,
-        }
+        Checked::advance(self, head, value)
     }
 
     fn leave(self) -> Machine {

@@ -1,9 +1,9 @@
 // A machine that is asked question 8 once: power-on and `enter` make it, its events do not ask again, and `leave` hands it back.
 
 ghost use Rattle.std.specs.Prelude.{◌≡◌};
-ghost use Rattle.handlers.specs.Checked.{start_of, enter_of, checked_step_of};
+ghost use Rattle.handlers.specs.Checked.{start_of, enter_of, checked_step_of, answered_by};
 
-use crate::{Checked, CheckedOutcome, Machine};
+use crate::{Answered, Checked, CheckedOutcome, Machine};
 use outcome::Answering;
 
 impl Checked {
@@ -50,6 +50,19 @@ impl Checked {
         let out = self.machine.sound_step(head, value);
         CheckedOutcome {
             machine: self.with_machine(out.machine),
+            answer: out.answer,
+            refusal: out.refusal,
+        }
+    }
+
+    // One event, by which it is changed.
+    pub fn advance(&mut self, head: u32, value: u32) -> Answered
+        ensures self_after { self.new ≡ (checked_step_of self.old head value).machine }
+        ensures value { result ≡ answered_by (checked_step_of self.old head value) }
+    {
+        let out = self.machine.sound_step(head, value);
+        self.machine = out.machine;
+        Answered {
             answer: out.answer,
             refusal: out.refusal,
         }

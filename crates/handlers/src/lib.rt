@@ -25,6 +25,13 @@ pub type Outcome = outcome::Outcome<Machine>;
 
 impl Answering for Machine {}
 
+// What an event answers, and what it is refused with, 0 if it is accepted.
+#[derive(Clone, Copy)]
+pub struct Answered {
+    pub answer: u32,
+    pub refusal: u8,
+}
+
 // What the margin query answers.
 #[derive(Clone, Copy)]
 pub struct Margin {

@@ -9,8 +9,8 @@ ghost use Rattle.claims.specs.Play.{events_played, played_of, answers_of, refusa
 ghost use Rattle.claims.specs.Nested.{Claimed};
 ghost use Rattle.lent_machine.specs.Lend.{answered_of};
 
-pub use claims::Answered;
 use claims::{Played, Plays};
+pub use handlers::Answered;
 use handlers::Machine;
 
 // One event on a lent machine, which is changed.

@@ -3,7 +3,7 @@ use Prim.Native.Nat.{◌<◌}
 use mathlib.Core.Path.{◌≡◌, refl, ap, ◌∙◌}
 use native.Mathlib.Omega.{arith}
 use Rattle.handlers.specs.Outcome.{Outcome}
-use Rattle.claims.specs.declared.machines.Answered.{Answered}
+use Rattle.handlers.specs.declared.Answered.{Answered}
 use Rattle.claims.specs.Play.{end_of, each_of}
 use Rattle.claims.proofs.Playing.{count_fits, machine-turn, stored-turn, claimed, machine-end}
 use Rattle.claims.proofs.play_on.Goals as goal
