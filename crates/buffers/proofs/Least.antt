@@ -3,6 +3,8 @@ use Prim.Native.Nat.{ℕ, ◌≤◌}
 use mathlib.Core.Path.{◌≡◌, refl}
 use mathlib.Core.Bool.{Bool, true, false, cond}
 use native.Mathlib.Omega.{arith}
+use Rattle.std.proofs.Math.Nat.{min-eq_left, min-eq_right}
+use Rattle.std.specs.Prelude.{min}
 use lib.Dec.{ltb}
 use borrow.Author.Tests.{ltb-true, ltb-false, le-ltb}
 use Rattle.buffers.specs.Least.{least}
@@ -28,3 +30,12 @@ least_above k a b h g = go (ltb b a)
     go : (t : Bool) → k ≤ cond t b a
     go true = g
     go false = h
+
+-- It is the library's.
+pub min-least : (a b : ℕ) → min a b ≡ least a b
+unfolding least
+min-least a b = go (ltb b a) refl
+  where
+    go : (t : Bool) → ltb b a ≡ t → min a b ≡ cond t b a
+    go true e = let l = ltb-true b a e in min-eq_right (omega arith)
+    go false e = min-eq_left (ltb-false b a e)

@@ -8,5 +8,5 @@ ghost use Rattle.buffers.specs.Least.{least};
 pub fn lesser(a: usize, b: usize) -> usize
     ensures { result ≡ least a b }
 {
-    if b < a { b } else { a }
+    a.min(b)
 }

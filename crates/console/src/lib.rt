@@ -2,7 +2,7 @@
 // Which bytes the system gives and takes is outside any contract: these say that the count of bytes read lies within the buffer.
 #![tactic(auto)]
 
-ghost use Rattle.std.specs.Prelude.{◌≡◌, ◌+◌, ◌<◌, ◌≤◌, ◌≢◌, ◌↔◌, IsTrue, IsFalse, length, take, drop, slice_index};
+ghost use Rattle.std.specs.Prelude.{◌≡◌, ◌^◌, ◌<◌, ◌≢◌, ◌↔◌, IsTrue, IfOk, IfSome, length, take, slice_index};
 ghost use Rattle.console.specs.Counts.{IsPrefixLen};
 ghost use Rattle.std.specs.Io.{StartsWith};
 ghost use Rattle.std.specs.Io.KnownBytes.{Consumes, IsAtEnd};
@@ -18,72 +18,21 @@ const NAME_SIZE: usize = 4096;
 // The buffer for the words of an error.
 const WORDS_SIZE: usize = 256;
 
-// What was read: whether that failed, and how many bytes stand at the start of the buffer.
-#[derive(Clone, Copy)]
-pub struct Input {
-    pub failed: bool,
-    pub length: usize,
-}
-
-// One read into the buffer from a place on.
-fn read_some<R: Read>(file: &mut R, buffer: &mut [u8], at: usize) -> Input
-    requires { at ≤ length buffer.old }
-    ensures within { at + result.length ≤ length buffer.old }
-    ensures front { take at buffer.new ≡ take at buffer.old }
-    ensures bytes { IsFalse result.failed → Consumes (R.remaining file.old) (R.remaining file.new) (take result.length (drop at buffer.new)) }
-    ensures end { IsFalse result.failed → result.length ≡ 0 → at < length buffer.old → IsAtEnd (R.remaining file.new) }
-{
-    match file.read(&mut buffer[at..]) {
-        Ok(length) => Input {
-            failed: false,
-            length,
-        },
-        Err(_) => Input {
-            failed: true,
-            length: 0,
-        },
-    }
-}
-
-// Reads until the input ends or the buffer is full, also from a pipe that gives a few bytes at a time.
-fn read_all<R: Read>(file: &mut R, buffer: &mut [u8]) -> Input
-    ensures within { IsPrefixLen result.length buffer.new }
-    ensures none { IsTrue result.failed → result.length ≡ 0 }
-    ensures bytes { IsFalse result.failed → Consumes (R.remaining file.old) (R.remaining file.new) (take result.length buffer.new) }
-    ensures end { IsFalse result.failed → result.length < length buffer.new → IsAtEnd (R.remaining file.new) }
+// Reads until the input ends or the buffer is full, also from a pipe that gives a few bytes at a time, and answers how many bytes stand at its start.
+fn read_all<R: Read>(file: &mut R, buffer: &mut [u8]) -> io::Result<usize>
+    ensures within { IfOk result (λ n. IsPrefixLen n buffer.new) }
+    ensures bytes { IfOk result (λ n. Consumes (R.remaining file.old) (R.remaining file.new) (take n buffer.new)) }
+    ensures end { IfOk result (λ n. n < length buffer.new → IsAtEnd (R.remaining file.new)) }
 {
     let mut at: usize = 0;
     while at < buffer.len() {
-        let some = read_some(file, buffer, at);
-        if some.failed {
-            return Input {
-                failed: true,
-                length: 0,
-            };
+        let some = file.read(&mut buffer[at..])?;
+        if some == 0 {
+            return Ok(at);
         }
-        if some.length == 0 {
-            return Input {
-                failed: false,
-                length: at,
-            };
-        }
-        at += some.length;
+        at += some;
     }
-    Input {
-        failed: false,
-        length: at,
-    }
-}
-
-// It failed, and none of the buffer's bytes count.
-fn nothing(buffer: &[u8]) -> Input
-    ensures within { IsPrefixLen result.length buffer.now }
-    ensures none { IsTrue result.failed × (result.length ≡ 0) }
-{
-    Input {
-        failed: true,
-        length: 0,
-    }
+    Ok(at)
 }
 
 // Writes the bytes to standard error.
@@ -135,22 +84,20 @@ fn say_refused(rt: &HostRuntime, name: &[u8], error: io::Error) {
 }
 
 // Reads standard input, and says so where it cannot be read.
-fn read_standard(rt: &HostRuntime, buffer: &mut [u8]) -> Input
-    ensures within { IsPrefixLen result.length buffer.new }
-    ensures none { IsTrue result.failed → result.length ≡ 0 }
+fn read_standard(rt: &HostRuntime, buffer: &mut [u8]) -> Option<usize>
+    ensures within { IfSome result (λ n. IsPrefixLen n buffer.new) }
 {
     let input = read_all(&mut rt.stdin(), buffer);
-    if input.failed {
+    if input.is_err() {
         say_unread(rt, b"standard input");
     }
-    input
+    input.ok()
 }
 
 // Reads the file, and closes it before anything is written, so that nothing reaches it even where a closed standard output or standard error left it
 // that number.
-fn read_open(mut file: File, buffer: &mut [u8]) -> Input
-    ensures within { IsPrefixLen result.length buffer.new }
-    ensures none { IsTrue result.failed → result.length ≡ 0 }
+fn read_open(mut file: File, buffer: &mut [u8]) -> io::Result<usize>
+    ensures within { IfOk result (λ n. IsPrefixLen n buffer.new) }
 {
     let input = read_all(&mut file, buffer);
     drop(file);
@@ -158,92 +105,87 @@ fn read_open(mut file: File, buffer: &mut [u8]) -> Input
 }
 
 // Reads the file of this name, and says so where it cannot be opened or read. It is opened for reading alone.
-fn read_file(rt: &HostRuntime, name: &str, buffer: &mut [u8]) -> Input
-    ensures within { IsPrefixLen result.length buffer.new }
-    ensures none { IsTrue result.failed → result.length ≡ 0 }
+fn read_file(rt: &HostRuntime, name: &str, buffer: &mut [u8]) -> Option<usize>
+    ensures within { IfSome result (λ n. IsPrefixLen n buffer.new) }
 {
     match File::open(rt, name) {
         Ok(file) => {
             let input = read_open(file, buffer);
-            if input.failed {
+            if input.is_err() {
                 say_unread(rt, name.as_bytes());
             }
-            input
+            input.ok()
         }
         Err(error) => {
             say_refused(rt, name.as_bytes(), error);
-            nothing(buffer)
+            None
         }
     }
 }
 
 // Reads the file of this name. std opens no file whose name is no text.
-fn read_named(rt: &HostRuntime, name: &[u8], buffer: &mut [u8]) -> Input
-    ensures within { IsPrefixLen result.length buffer.new }
-    ensures none { IsTrue result.failed → result.length ≡ 0 }
+fn read_named(rt: &HostRuntime, name: &[u8], buffer: &mut [u8]) -> Option<usize>
+    ensures within { IfSome result (λ n. IsPrefixLen n buffer.new) }
 {
-    match std::str::from_utf8(name) {
-        Ok(text) => read_file(rt, text, buffer),
-        Err(_) => {
-            say_unopened(rt, name, b"the name is not UTF-8");
-            nothing(buffer)
-        }
-    }
+    let Ok(text) = std::str::from_utf8(name) else {
+        say_unopened(rt, name, b"the name is not UTF-8");
+        return None;
+    };
+    read_file(rt, text, buffer)
 }
 
 // Whether an argument names a file: it has bytes, and the first is no minus.
 fn is_name(argument: &[u8]) -> bool
     ensures { IsTrue result ↔ ((0 < length argument.now) × (slice_index argument.now 0 ≢ 45)) }
 {
-    if argument.len() == 0 {
-        return false;
-    }
-    argument[0] != b'-'
+    argument.first().is_some_and(|b| *b != b'-')
 }
 
 // Reads the file that the first argument names. Where it names none, the usage is said. One that is longer than any name is not handed out whole.
-fn read_argument(rt: &HostRuntime, buffer: &mut [u8], usage: &[u8]) -> Input
-    ensures within { IsPrefixLen result.length buffer.new }
-    ensures none { IsTrue result.failed → result.length ≡ 0 }
+fn read_argument(rt: &HostRuntime, buffer: &mut [u8], usage: &[u8]) -> Option<usize>
+    ensures within { IfSome result (λ n. IsPrefixLen n buffer.new) }
 {
     let mut name = [0u8; NAME_SIZE];
-    match rt.arg(1, &mut name) {
-        Ok(length) => {
-            if is_name(&name[..length]) {
-                return read_named(rt, &name[..length], buffer);
-            }
-            say(rt, usage);
-            nothing(buffer)
-        }
-        Err(_) => {
-            say_unopened(rt, b"FILE", b"File name too long");
-            nothing(buffer)
-        }
+    let Ok(length) = rt.arg(1, &mut name) else {
+        say_unopened(rt, b"FILE", b"File name too long");
+        return None;
+    };
+    if !is_name(&name[..length]) {
+        say(rt, usage);
+        return None;
     }
+    read_named(rt, &name[..length], buffer)
 }
 
 // Whether the program has this argument. The first after its own name is argument 1.
 fn has_argument(rt: &impl Env, place: usize) -> bool {
-    match rt.arg(place, &mut []) {
-        Err(FillError::NotPresent) => false,
-        _ => true,
-    }
+    !matches!(rt.arg(place, &mut []), Err(FillError::NotPresent))
 }
 
-// Reads standard input where the program has no argument, or the file that its one argument names. Where that fails, it is said on standard error,
-// and nothing is left to be done.
-pub fn read_input(rt: &HostRuntime, buffer: &mut [u8], usage: &[u8]) -> Input
-    ensures within { IsPrefixLen result.length buffer.new }
-    ensures none { IsTrue result.failed → result.length ≡ 0 }
+// Reads standard input where the program has no argument, or the file that its one argument names, and answers how many bytes stand at the start of the
+// buffer. Where that fails, it is said on standard error, and nothing is left to be done.
+pub fn read_input(rt: &HostRuntime, buffer: &mut [u8], usage: &[u8]) -> Option<usize>
+    ensures within { IfSome result (λ n. IsPrefixLen n buffer.new) }
 {
     if has_argument(rt, 2) {
         say(rt, usage);
-        return nothing(buffer);
+        return None;
     }
     if has_argument(rt, 1) {
         return read_argument(rt, buffer, usage);
     }
     read_standard(rt, buffer)
+}
+
+// A program that takes one step on what it reads: reads it into a buffer of this size, and stops where that fails.
+pub fn with_input<const SIZE: usize, F: FnOnce(&[u8])>(rt: &HostRuntime, usage: &[u8], step: F)
+    requires size { SIZE < 2 ^ 63 }
+    requires step { F.IsAlwaysCallable step }
+{
+    let mut buffer = [0u8; SIZE];
+    if let Some(length) = read_input(rt, &mut buffer, usage) {
+        step(&buffer[..length]);
+    }
 }
 
 #[cfg(test)]
@@ -288,8 +230,8 @@ mod tests {
         ] {
             let mut buffer = [0u8; 4];
             let input = read_all(&mut Trickle { left, fails }, &mut buffer);
-            assert_eq!(rt; input.failed, failed, "of {left}");
-            assert_eq!(rt; input.length, length, "of {left}");
+            assert_eq!(rt; input.is_err(), failed, "of {left}");
+            assert_eq!(rt; input.unwrap_or(0), length, "of {left}");
         }
     }
 }

@@ -2,10 +2,11 @@
 use Prim.Native.Nat.{ℕ, zero, suc, ◌+◌, ◌-◌, ◌/◌, ◌%◌, ◌≤◌, ◌<◌}
 use native.Mathlib.Omega.{arith}
 use native.Mathlib.Nat.{mod-lt, mod-eq_of_lt}
-use borrow.Author.Tests.{ltb-true, ltb-false, leb-true, leb-false, lt-ltb, le-leb, lt-leb, not-true, not-false}
+use borrow.Author.Tests.{ltb-true, leb-true, leb-false, lt-ltb, le-ltb, le-leb, lt-leb}
 use native.Mathlib.Numerals.{sub-one, add-one}
 use mathlib.Core.Path.{◌≡◌, refl, ap, ◌∙◌}
-use mathlib.Core.Bool.{Bool, true, false, ◌&&◌, not, cond}
+use mathlib.Core.Bool.{Bool, true, false, ◌&&◌, cond}
+use mathlib.Core.Logic.{◌⊎◌, inl, inr}
 use mathlib.Core.List.{List, [], ◌∷◌, ◌++◌}
 use lib.ListN.{length, set, length-append}
 use lib.Seq.{sets}
@@ -122,39 +123,32 @@ count-start base least most n h =
     let r : most + 1 - 1 ≡ most = omega arith in
     (omega arith, h, rw (q, r) (omega arith))
 
-enough : (least k : ℕ) → 0 < k → leb (least + 1 - k) 1 ≡ leb least k
-enough least k h = same_test least k (least + 1 - k) 1 (λ l. omega arith) (λ l. omega arith)
-
-pub count-below : (most k : ℕ) (b : Bool) → (ltb k most && b) ≡ true → k < most
-count-below most k b t = ltb-true k most (both (ltb k most) b t).0
-
 -- One more, where left has more than the one.
-pub count_turn : (base least most n k left : ℕ) → (ltb k most && not (ltb left base && leb least k)) ≡ true → Counted base least most n k left
+pub count_turn : (base least most n k left : ℕ) → k < most → (left < base) × (k < least) ⊎ (base ≤ left) → Counted base least most n k left
     → Counted base least most n (k + 1) (left / base)
-count_turn base least most n k left t (p, m, e) =
-    let (h, f) = both (ltb k most) (not (ltb left base && leb least k)) t in
-    let l : k < most = ltb-true k most h in
-    let g : (ltb left base && leb (least + 1 - k) 1) ≡ false = rw (enough least k p) (not-true _ f) in
+count_turn base least most n k left l more (p, m, e) =
+    let g : (ltb left base && leb (least + 1 - k) 1) ≡ false = elim more [
+      | inl h ↦ and_right (ltb left base) (leb (least + 1 - k) 1) (lt-leb (least + 1 - k) 1 (omega (arith, h)))
+      | inr h ↦ rw (le-ltb left base h)
+    ] in
     let q : least + 1 - k - 1 ≡ least + 1 - (k + 1) = omega arith in
     let r : most + 1 - k - 1 ≡ most + 1 - (k + 1) = omega arith in
     let d : length (digits_to base (least + 1 - k) (most + 1 - k) left) ≡ length (digits_to base (least + 1 - (k + 1)) (most + 1 - (k + 1)) (left / base)) + 1
     = rw (more-digits base (least + 1 - k) (most + 1 - k) left (omega arith) g, q, r, length-append) in
     (omega arith, omega arith, omega (arith, e, d))
 
--- No more: as many as may be, or one of left.
-pub count-end : (base least most n k left : ℕ) → (ltb k most && not (ltb left base && leb least k)) ≡ false → Counted base least most n k left
-    → k ≡ length (digits_to base least most n)
-count-end base least most n k left t (p, m, e) = by-case (ltb k most) refl t
-  where
-    by-case : (x : Bool) → ltb k most ≡ x → (x && not (ltb left base && leb least k)) ≡ false → k ≡ length (digits_to base least most n)
-    by-case true h t' =
-        let f : (ltb left base && leb (least + 1 - k) 1) ≡ true = rw (enough least k p) (not-false _ t') in
-        let d = ap length (one-digit base (least + 1 - k) (most + 1 - k) left (omega arith) f) in
-        omega (arith, e, d)
-    by-case false h t' =
-        let l : most ≤ k = ltb-false k most h in
-        let o : most + 1 - k ≡ 1 = omega arith in
-        omega (arith, rw o at e, one_place base (least + 1 - k) left)
+-- No more: one of left is enough.
+pub count-enough : (base least most n k left : ℕ) → left < base → least ≤ k → Counted base least most n k left → k ≡ length (digits_to base least most n)
+count-enough base least most n k left l o (p, m, e) =
+    let f : (ltb left base && leb (least + 1 - k) 1) ≡ true = rw (lt-ltb left base l, le-leb (least + 1 - k) 1 (omega arith)) in
+    let d = ap length (one-digit base (least + 1 - k) (most + 1 - k) left (omega arith) f) in
+    omega (arith, e, d)
+
+-- Or as many as may be.
+pub count-most : (base least most n k left : ℕ) → most ≤ k → Counted base least most n k left → most ≡ length (digits_to base least most n)
+count-most base least most n k left l (p, m, e) =
+    let o : most + 1 - k ≡ 1 = omega arith in
+    omega (arith, rw o at e, one_place base (least + 1 - k) left)
 
 -- Each digit is below 16.
 pub low-remainder : (base n : ℕ) → 1 < base → base ≤ 16 → n % base < 16

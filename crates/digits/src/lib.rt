@@ -24,13 +24,14 @@ fn count_digits(base: u64, least: usize, most: usize, n: u64) -> usize
     requires { (1 < base) × (0 < most) }
     ensures { result ≡ length (digits_to base least most n) }
 {
-    let mut k: usize = 1;
     let mut left = n;
-    while (k < most) & !((left < base) & (least <= k)) {
-        left = left / base;
-        k += 1;
+    for k in 1..most {
+        if left < base && least <= k {
+            return k;
+        }
+        left /= base;
     }
-    k
+    most
 }
 
 // Stores the last k digits of n from a place on, the last one first.
@@ -39,23 +40,9 @@ fn store_digits(buffer: &mut [u8], at: usize, base: u64, k: usize, n: u64)
     ensures { buffer.new ≡ sets buffer.old at (digits_to base k k n) }
 {
     let mut left = n;
-    let mut i = k;
-    while 0 < i {
-        i -= 1;
+    for i in (0..k).rev() {
         buffer[at + i] = glyph(left % base);
-        left = left / base;
-    }
-}
-
-// Stores the text in the buffer from a place on.
-fn copy(buffer: &mut [u8], at: usize, text: &[u8])
-    requires { at + length text.now ≤ length buffer.old }
-    ensures { buffer.new ≡ sets buffer.old at text.now }
-{
-    let mut i: usize = 0;
-    while i < text.len() {
-        buffer[at + i] = text[i];
-        i += 1;
+        left /= base;
     }
 }
 
@@ -75,7 +62,7 @@ pub fn put_text(buffer: &mut [u8], at: usize, text: &[u8]) -> usize
     ensures buffer_after { buffer.new ≡ put_at buffer.old at text.now }
 {
     if has_room(buffer.len(), at, text.len()) {
-        copy(buffer, at, text);
+        buffer[at..at + text.len()].copy_from_slice(text);
         return at + text.len();
     }
     at

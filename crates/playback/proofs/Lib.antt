@@ -1,6 +1,5 @@
 -- What is proved of the print.
 pub mod Rows
-pub mod Signs
 pub mod Room
 pub mod Printing
 pub mod Whole

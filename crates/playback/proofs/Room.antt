@@ -1,12 +1,9 @@
 -- A text for which so much room is asked.
 use Prim.Native.Nat.{ℕ, ◌≤◌, ◌<◌}
-use native.Mathlib.Omega.{arith}
-use mathlib.Core.Bool.{Bool, true, false}
-use mathlib.Core.Path.{◌≡◌, refl, sym}
+use mathlib.Core.Path.{◌≡◌, refl}
 use mathlib.Core.List.{List}
-use lib.Dec.{leb}
 use lib.ListN.{length}
-use borrow.Author.Tests.{leb-true, leb-false, le-leb, lt-leb}
+use borrow.Author.Tests.{le-leb, lt-leb}
 use Rattle.buffers.specs.Filled.{filled}
 use Rattle.playback.specs.Print.{length_put, put_into}
 
@@ -28,15 +25,3 @@ filled-as out e p = rw (← e) p
 pub put_as : (out : List ℕ) {room room' r : ℕ} {s t d : List ℕ} → room ≡ room' → s ≡ t
     → (r ≡ length_put room s (length out)) × (d ≡ put_into room s out) → (r ≡ length_put room' t (length out)) × (d ≡ put_into room' t out)
 put_as out e f p = rw (← e, ← f) p
-
--- Two tests that ask the same.
-pub leb-same : (a b c d : ℕ) → (a ≤ b → c ≤ d) → (c ≤ d → a ≤ b) → leb a b ≡ leb c d
-leb-same a b c d to from = go (leb a b) refl
-  where
-    go : (t : Bool) → leb a b ≡ t → t ≡ leb c d
-    go true e = sym (le-leb c d (to (leb-true a b e)))
-    go false e = go-back (leb c d) refl
-      where
-        go-back : (u : Bool) → leb c d ≡ u → false ≡ u
-        go-back true f = let yes = from (leb-true c d f) in absurd (omega (arith, leb-false a b e))
-        go-back false f = refl

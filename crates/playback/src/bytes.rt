@@ -90,18 +90,18 @@ fn print_within(
     }
 }
 
-// Prints any record into a buffer of any length: the print fills its first bytes, and the answer is how many. With less room than the record's print may
-// need it stays as it was, nothing is played, and the answer is 0.
-pub fn print_into(record: &[u8], out: &mut [u8]) -> usize
-    ensures value { result ≡ printed_length board «record».now (length out.old) }
-    ensures out_after { out.new ≡ printed_into board «record».now out.old }
+// Prints a record by a reader with these limits, on arrays with a place for each event that it takes, as print_into does.
+fn print_by<const EVENTS: usize>(limits: Limits, record: &[u8], out: &mut [u8]) -> usize
+    requires { EVENTS ≡ limits.events }
+    ensures value { result ≡ printed_length limits «record».now (length out.old) }
+    ensures out_after { out.new ≡ printed_into limits «record».now out.old }
 {
-    let mut heads: [u32; MOST_EVENTS] = [0; MOST_EVENTS];
-    let mut values: [u32; MOST_EVENTS] = [0; MOST_EVENTS];
-    let mut answers: [u32; MOST_EVENTS] = [0; MOST_EVENTS];
-    let mut refusals: [u8; MOST_EVENTS] = [0; MOST_EVENTS];
+    let mut heads: [u32; EVENTS] = [0; EVENTS];
+    let mut values: [u32; EVENTS] = [0; EVENTS];
+    let mut answers: [u32; EVENTS] = [0; EVENTS];
+    let mut refusals: [u8; EVENTS] = [0; EVENTS];
     print_within(
-        BOARD,
+        limits,
         record,
         &mut heads,
         &mut values,
@@ -109,6 +109,15 @@ pub fn print_into(record: &[u8], out: &mut [u8]) -> usize
         &mut refusals,
         out,
     )
+}
+
+// Prints any record into a buffer of any length: the print fills its first bytes, and the answer is how many. With less room than the record's print may
+// need it stays as it was, nothing is played, and the answer is 0.
+pub fn print_into(record: &[u8], out: &mut [u8]) -> usize
+    ensures value { result ≡ printed_length board «record».now (length out.old) }
+    ensures out_after { out.new ≡ printed_into board «record».now out.old }
+{
+    print_by::<MOST_EVENTS>(BOARD, record, out)
 }
 
 // Prints any record into a buffer with room for the print of any record.
@@ -126,17 +135,5 @@ pub fn print_compact(record: &[u8], out: &mut [u8; COMPACT_PRINT_SIZE]) -> usize
     ensures out_after { out.new ≡ filled (compact_print_of «record».now) out.old }
     ensures has_first { HasFirst result out.new }
 {
-    let mut heads: [u32; COMPACT_EVENTS] = [0; COMPACT_EVENTS];
-    let mut values: [u32; COMPACT_EVENTS] = [0; COMPACT_EVENTS];
-    let mut answers: [u32; COMPACT_EVENTS] = [0; COMPACT_EVENTS];
-    let mut refusals: [u8; COMPACT_EVENTS] = [0; COMPACT_EVENTS];
-    print_within(
-        COMPACT,
-        record,
-        &mut heads,
-        &mut values,
-        &mut answers,
-        &mut refusals,
-        out,
-    )
+    print_by::<COMPACT_EVENTS>(COMPACT, record, out)
 }

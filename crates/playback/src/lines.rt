@@ -113,10 +113,5 @@ pub(crate) fn is_below(z: i32) -> bool
 pub(crate) fn size(z: i32) -> u64
     ensures { result ≡ nat_abs z }
 {
-    let wide = z as i64;
-    if wide < 0 {
-        (0 - wide) as u64
-    } else {
-        wide as u64
-    }
+    z.unsigned_abs() as u64
 }

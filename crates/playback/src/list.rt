@@ -30,17 +30,15 @@ fn put_events(out: &mut [u8], at: usize, heads: &[u32], answers: &[u32], refusal
     ensures out_after { out.new ≡ sets out.old at (event_lines 0 heads.now answers.now refusals.now) }
 {
     let mut next = at;
-    let mut i: usize = 0;
-    while i < heads.len() {
+    for (i, head) in heads.iter().enumerate() {
         next = put_event(
             out,
             next,
             i as u64,
-            event::kind(heads[i]) as u64,
+            event::kind(*head) as u64,
             answers[i] as u64,
             refusals[i] as u64,
         );
-        i += 1;
     }
     next
 }

@@ -12,15 +12,9 @@ fn show(rt: &HostRuntime, record: &[u8]) {
 }
 
 fn main(rt: HostRuntime) {
-    let mut record: [u8; INPUT_SIZE] = [0; INPUT_SIZE];
-    let input = console::read_input(
+    console::with_input::<INPUT_SIZE, _>(
         &rt,
-        &mut record,
         b"usage: player [FILE]\nplays the record in FILE, or on standard input, and prints it\n",
+        |record| show(&rt, record),
     );
-    if input.failed {
-        return;
-    }
-    let length = input.length;
-    show(&rt, &record[..length]);
 }

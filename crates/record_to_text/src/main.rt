@@ -25,15 +25,9 @@ fn convert(rt: &HostRuntime, bytes: &[u8]) {
 }
 
 fn main(rt: HostRuntime) {
-    let mut bytes: [u8; INPUT_SIZE] = [0; INPUT_SIZE];
-    let input = console::read_input(
+    console::with_input::<INPUT_SIZE, _>(
         &rt,
-        &mut bytes,
         b"usage: record_to_text [FILE]\nmakes a text of the record in FILE, or on standard input\n",
+        |bytes| convert(&rt, bytes),
     );
-    if input.failed {
-        return;
-    }
-    let length = input.length;
-    convert(&rt, &bytes[..length]);
 }

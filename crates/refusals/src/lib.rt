@@ -1,9 +1,9 @@
 // The words of each refusal.
 #![tactic(auto)]
 
-ghost use Rattle.std.specs.Prelude.{◌≡◌, ◌+◌, length, drop};
+ghost use Rattle.std.specs.Prelude.{◌≡◌};
 ghost use Rattle.digits.specs.Put.{put_at, place_after};
-ghost use Rattle.refusals.specs.Lines.{start_of, first_line, line_at};
+ghost use Rattle.refusals.specs.Lines.{line_at};
 ghost use Rattle.refusals.specs.Words.{words_of};
 
 use digits::put_text;
@@ -11,47 +11,13 @@ use digits::put_text;
 // No refusal has more bytes of words.
 pub const WORDS_SIZE: usize = 80;
 
-// The place after the first n line feeds of a text; its end where it has fewer.
-fn line_start(text: &[u8], n: u8) -> usize
-    ensures { result ≡ start_of text.now n }
-{
-    let mut left = n;
-    let mut i: usize = 0;
-    while i < text.len() {
-        if left == 0 {
-            return i;
-        }
-        let feed = text[i] == 10;
-        i += 1;
-        if feed {
-            left -= 1;
-        }
-    }
-    i
-}
-
-// The place of the first line feed from a place on; the text's end where there is none.
-fn line_end(text: &[u8], from: usize) -> usize
-    ensures { result ≡ from + length (first_line (drop from text.now)) }
-{
-    let mut i = from;
-    while i < text.len() {
-        if text[i] == 10 {
-            return i;
-        }
-        i += 1;
-    }
-    i
-}
-
 // Puts the line that follows the first n line feeds of a text, as digits::put_text does.
 fn put_line(buffer: &mut [u8], at: usize, text: &[u8], n: u8) -> usize
     ensures value { result ≡ place_after buffer.old at (line_at text.now n) }
     ensures buffer_after { buffer.new ≡ put_at buffer.old at (line_at text.now n) }
 {
-    let from = line_start(text, n);
-    let to = line_end(text, from);
-    put_text(buffer, at, &text[from..to])
+    let line = text.split(|b| *b == b'\n').nth(n as usize).unwrap_or(&[]);
+    put_text(buffer, at, line)
 }
 
 // Puts the words of a refusal, as digits::put_text does.

@@ -1,14 +1,7 @@
-use borrow.Author.Rules.{rules}
 use lib.ListN.{length}
 use Rattle.digits.proofs.Digits.{number-fitting, number-not-fitting}
 use Rattle.digits.proofs.Stores.{room, no_room}
 use Rattle.digits.proofs.put_number.Goals as goal
-
-pub store_digits-requires : goal.store_digits-requires
-store_digits-requires c = let h = room c.args.at c.count_digits-k.result (length c.args.buffer.now) c.has_room.ensures c.if-has_room.true in search rules
-
-pub overflow_add-result : goal.overflow_add-result
-overflow_add-result c = let h = room c.args.at c.count_digits-k.result (length c.args.buffer.now) c.has_room.ensures c.if-has_room.true in search rules
 
 pub returns-then-has_room : goal.returns-then-has_room
 returns-then-has_room c =
