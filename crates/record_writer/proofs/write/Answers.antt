@@ -1,7 +1,7 @@
 use borrow.Author.Rules.{rules}
 use mathlib.Core.Path.{◌∙◌, sym, ap}
 use lib.ListN.{length}
-use Rattle.record.specs.declared.Verdict.{Verdict}
+use Rattle.record.specs.Verdict.{Verdict}
 use Rattle.record_writer.proofs.Answers.{write-refused, write-accepted}
 use Rattle.record.proofs.Questions.{Writable, writable}
 use Rattle.record_writer.proofs.write.Goals as goal
