@@ -190,6 +190,10 @@ writable sources heads values space h =
       events = q5.1;
     }
 
+pub writes : {sources : ℕ} {heads values : List ℕ} {space : ℕ} → no_refusal ≡ write_verdict sources heads values space
+    → Writable sources heads values space
+writes e = writable _ _ _ _ (ap (λ (v : Verdict). v.refusal) (sym e))
+
 -- A writing that question 6 or a later one refuses: the place is that of an event.
 later : (n k : ℕ) (answer : Bool) (next : Verdict) → k < 6 → (answer ≡ true → 6 ≤ next.refusal → next.place < n)
     → 6 ≤ (question k answer next).refusal → (question k answer next).place < n

@@ -17,7 +17,7 @@ returns-in_err-ask_reading c =
     let refused = c.in_err-ask_reading.field-0.0 in
     let p = err_from_is_err_and c.from_residual.result c.from_residual.ensures.1 in
     let r = read-refused args.limits args.bytes.now args.heads.now args.values.now c.in_err-ask_reading.ensures
-      (refuses refused.refusal) in
+    (refuses refused.refusal) in
     rw (p.1, p.2) (record { result_value = r.0; heads_after = r.1.0; values_after = r.1.1 })
 
 pub word-events-requires : goal.word-events-requires
@@ -65,6 +65,6 @@ returns c =
     let heads_long : 4 * (2 + n) ≤ length bytes = omega arith in
     let values_long : 4 * (2 + n + n) ≤ length bytes = omega arith in
     let r = read-accepted args.limits bytes args.heads.now args.values.now c.in_ok-ask_reading.ensures refl c.word-events.ensures c.word.ensures
-      (words-filled bytes 2 n args.heads.now heads_long (omega arith) c.read_words.ensures)
-      (words-filled bytes (2 + n) n args.values.now values_long (omega arith) c.read_words-2.ensures) in
+    (words-filled bytes 2 n args.heads.now heads_long (omega arith) c.read_words.ensures)
+    (words-filled bytes (2 + n) n args.values.now values_long (omega arith) c.read_words-2.ensures) in
     record { result_value = r.0; heads_after = r.1.0; values_after = r.1.1 }
