@@ -1,14 +1,18 @@
-use mathlib.Core.Path.{◌∙◌, sym}
+use mathlib.Core.Path.{◌∙◌, sym, ap}
+use Rattle.questions.specs.Numbers.{number_of, number_in}
+use Rattle.event.specs.Kinds.{number_of_kind}
+use Rattle.event.proofs.Laws.{no-kind, only-chain}
 use Rattle.record.proofs.Retired.{of-six, of-retired, of_other}
 use Rattle.record_writer.proofs.write_shape.Goals as goal
 
-pub returns-then-refusal-eq6 : goal.returns-then-refusal-eq6
-returns-then-refusal-eq6 c = c.if-refusal-eq6.true ∙ sym (of-six _ _ (sym c.shape-refusal.ensures ∙ c.if-refusal-eq6.true))
+pub returns-in_default : goal.returns-in_default
+unfolding number_of number_in
+returns-in_default c = sym (of-six _ _ (no-kind c.args.head c.args.value c.in_default.ensures.1 c.kind.ensures))
 
-pub returns-then-kind-eq-CHAIN : goal.returns-then-kind-eq-CHAIN
-returns-then-kind-eq-CHAIN c = sym (of-retired _ _ (sym c.kind.ensures ∙ c.if-kind-eq-CHAIN.true))
+pub returns-in-Chain : goal.returns-in-Chain
+unfolding number_of number_in
+returns-in-Chain c = sym (of-retired _ _ (sym c.kind.ensures ∙ sym c.in-Ok.ensures ∙ ap number_of_kind c.in-Chain.is))
 
-pub returns : goal.returns
-returns c =
-    let kind = c.before in
-    kind.shape-refusal.ensures ∙ sym (of_other _ _ (λ e. c.if-kind-eq-CHAIN.false (kind.kind.ensures ∙ e)))
+pub returns-in_default-kind : goal.returns-in_default-kind
+returns-in_default-kind c =
+    c.shape.ensures ∙ sym (of_other _ _ (λ e. only-chain c.in-Ok.kind c.in_default-kind.not-Chain (c.in-Ok.ensures ∙ c.kind.ensures ∙ e)))
