@@ -1,5 +1,5 @@
 -- The first mark in a text, what stands before it and after it, and the lines of a text.
-use mathlib.Core.Path.{◌≡◌, refl, ap}
+use mathlib.Core.Path.{◌≡◌, refl, sym, ap, ◌∙◌}
 use mathlib.Core.Bool.{Bool, true, false, cond}
 use Prim.Native.Nat.{ℕ, zero, suc, ◌+◌, ◌-◌, ◌≤◌, ◌<◌, min}
 use native.Mathlib.Nat.{min-eq_left, min-eq_right}
@@ -44,22 +44,20 @@ unfolding before after
 drop-after mark [] = refl
 drop-after mark (byte ∷ text) = drop-step (eqb byte mark) byte text (before mark text) (after mark text) (drop-after mark text)
 
-drop_min : (n : ℕ) (text : List ℕ) → drop (min n (length text)) text ≡ drop n text
-drop_min n text = go (leb n (length text)) refl
-  where
-    go : (t : Bool) → leb n (length text) ≡ t → drop (min n (length text)) text ≡ drop n text
-    go true e = rw (min-eq_left {n = n} {m = length text} (leb-true _ _ e))
-    go false e =
-        let h : length text ≤ n = omega (arith, leb-false n (length text) e) in
-        rw (min-eq_right {n = length text} {m = n} h, drop-length text, drop_of_length-le text h)
-
 -- What stands up to the mark that was found, and from the place after it on.
 module _ (mark : ℕ) (text : List ℕ) {at : ℕ} (e : at ≡ length (before mark text)) where
   pub up_to : take at text ≡ before mark text
   up_to = rw e (take-before mark text)
 
-  pub from_past : {next : ℕ} → next ≡ min (at + 1) (length text) → drop next text ≡ after mark text
-  from_past en = rw (en, e, drop_min, add-one) (drop-after mark text)
+  pub from_past : drop (at + 1) text ≡ after mark text
+  from_past = rw (e, add-one) (drop-after mark text)
+
+  pub none-past : length text ≤ at → drop at text ≡ after mark text
+  none-past h = let h' : length text ≤ at + 1 = omega arith in drop_of_length-le text h ∙ sym (drop_of_length-le text h') ∙ from_past
+
+-- It is shorter.
+pub after-shorter : (mark : ℕ) (text : List ℕ) → 0 < length text → length (after mark text) < length text
+after-shorter mark text h = rw (← drop-after mark text, length-drop) (omega arith)
 
 -- A part that goes to the end.
 pub rest_of : (text : List ℕ) (from : ℕ) → take (length text - from) (drop from text) ≡ drop from text

@@ -15,12 +15,12 @@ use Rattle.record.specs.Questions.{write_verdict}
 use Rattle.record.specs.Answers.{Answer, done_with, refused_at, write_numbers, write_answer, written_bytes}
 use Rattle.record.proofs.Answers.{write_done, write-not}
 use Rattle.record.proofs.Questions.{writable, write-place}
-use Rattle.text_reader.specs.declared.Fault.{Fault}
-use Rattle.text_lines.specs.declared.Number.{Number}
+
+
 use Rattle.text_lines.specs.Lines.{lines_in}
-use Rattle.text_lines.specs.Numbers.{number_in}
+use Rattle.text_lines.specs.Numbers.{Number, number_in}
 use Rattle.text_lines.specs.Rows.{trimmed, Row, rows_of}
-use Rattle.text_reader.specs.Reading.{fault, not_sources, too_long, text_size, events_fault, rows_fault, text_fault, sources_of_text, heads_of_text, values_of_text, numbers_of}
+use Rattle.text_reader.specs.Reading.{Fault, fault, not_sources, too_long, text_size, events_fault, rows_fault, text_fault, sources_of_text, heads_of_text, values_of_text, numbers_of}
 use Rattle.text_reader.specs.Answers.{faulty, written, row_of_place, line_of, to_record_answer, to_record_bytes}
 use Rattle.text_lines.proofs.Digits.{found_ok, found-value}
 
@@ -49,24 +49,11 @@ module _ (text : List ℕ) (short : length text ≤ text_size) where
     first-row : text_fault text ≡ cond v.ok (events_fault 0 rest) (not_sources row.number)
     first-row = by_rows ∙ rw (q, ev, found_ok 10 3 (trimmed row.said))
 
-    pub sources-bad : not v.ok ≡ true → not_sources row.number ≡ text_fault text
-    sources-bad z = sym (first-row ∙ rw (not-true v.ok z))
+    pub sources-bad : v.ok ≡ false → not_sources row.number ≡ text_fault text
+    sources-bad z = sym (first-row ∙ rw z)
 
-    module _ (z : not v.ok ≡ false) where
-      pub sources-good : {f : Fault} → f ≡ events_fault 0 rest → f ≡ text_fault text
-      sources-good ef = ef ∙ sym (first-row ∙ rw (not-false v.ok z))
-
-      pub sources-read : v.value ≡ sources_of_text text
-      sources-read = rw (q, ev) (found-value 10 3 (trimmed row.said) (ap (λ (w : Number). w.ok) (sym ev) ∙ not-false v.ok z))
-
-      pub first-line : row.number ≡ get_or (numbers_of (rows_of text)) 0 0
-      first-line = rw q
-
-      pub part-read : (f : Row → ℕ) {n : ℕ} (a : List ℕ) → n ≡ length rest → take n a ≡ map f (take n rest) → take n a ≡ map f (drop 1 (rows_of text))
-      part-read f a en ea = rw q (ea ∙ rw (en, take-length rest))
-
-      pub lines-read : {n : ℕ} (a : List ℕ) → n ≡ length rest → take n a ≡ numbers_of (take n rest) → take n a ≡ drop 1 (numbers_of (rows_of text))
-      lines-read a en ea = rw q (ea ∙ rw (en, take-length rest))
+    pub sources-good : v.ok ≡ true → {f : Fault} → f ≡ events_fault 0 rest → f ≡ text_fault text
+    sources-good z ef = ef ∙ sym (first-row ∙ rw z)
 
 -- A text that was read.
 module _ (text bytes : List ℕ) {f : Fault} (e : f ≡ text_fault text) where
