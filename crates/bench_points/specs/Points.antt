@@ -29,7 +29,7 @@ use Rattle.handlers_laws.specs.Errors.{with_counter}
 use Rattle.nesting.specs.Claim.{Class, is_taking, is_chaining, is_return, is_other}
 use Rattle.claims.specs.Play.{end_of, answers_of, refusals_of}
 use Rattle.claims.specs.Nested.{class_by}
-use Rattle.record.specs.declared.Verdict.{Verdict}
+use Rattle.record.specs.Verdict.{Verdict}
 use Rattle.record.specs.Record.{record_of}
 use Rattle.record.specs.Questions.{verdict, no_refusal, board_verdict, compact_verdict, write_verdict}
 use Rattle.record.specs.Words.{bytes_of_words}

@@ -4,7 +4,10 @@
 pub mod kinds;
 
 ghost use Rattle.std.specs.Prelude.{◌≡◌};
+ghost use Rattle.questions.specs.Numbers.{number_in};
 ghost use Rattle.event.specs.Event.{kind_of, address_of, shape_of};
+
+use questions::Refusal;
 
 // Whether a kind uses the address, and whether it uses the value.
 #[derive(Clone, Copy)]
@@ -42,18 +45,18 @@ pub fn address(head: u32) -> u32
     head % 65536
 }
 
-// Questions 6 and 7 of an event: 0 where both are answered yes, else the number of the first no.
-pub fn shape(head: u32, value: u32) -> u8
-    ensures { result ≡ shape_of head value }
+// Questions 6 and 7 of an event, first no decides.
+pub fn shape(head: u32, value: u32) -> Result<(), Refusal>
+    ensures { number_in result ≡ shape_of head value }
 {
     let k = (head / 65536) as usize;
     if KINDS.len() <= k {
-        return 6;
+        return Err(Refusal::NoSuchKind);
     }
     let uses = KINDS[k];
     if (uses.0 | (head % 65536 == 0)) & (uses.1 | (value == 0)) {
-        0
+        Ok(())
     } else {
-        7
+        Err(Refusal::UnusedPart)
     }
 }

@@ -5,7 +5,7 @@ use Rattle.buffers.specs.Filled.{filled}
 use Rattle.digits.specs.Digits.{decimal}
 use Rattle.event.specs.Event.{kind_of, kinds}
 use Rattle.record.specs.declared.Limits.{Limits}
-use Rattle.record.specs.declared.Verdict.{Verdict}
+use Rattle.record.specs.Verdict.{Verdict}
 use Rattle.record.specs.Record.{board, compact, sources_of, heads_of, values_of}
 use Rattle.record.specs.Questions.{verdict_within}
 use Rattle.record.specs.Answers.{all_yes}

@@ -7,7 +7,7 @@ use mathlib.Core.List.{List}
 use borrow.Author.Tests.{le-leb, eqb-true, eqb-false}
 use lib.ListN.{length, take, drop}
 use lib.Seq.{take_all}
-use Rattle.record.specs.declared.Verdict.{Verdict}
+use Rattle.record.specs.Verdict.{Verdict}
 use Rattle.record.specs.Record.{board, most_events, count_of, sources_of, heads_of, values_of}
 use Rattle.record.specs.Questions.{arrays_hold, board_verdict}
 use Rattle.record.specs.Answers.{all_yes}

@@ -1,6 +1,6 @@
 -- Document 01, "The player": what it prints of a record, as numbers.
 use Rattle.std.specs.Prelude.{ℕ, ◌≤◌, cond, ◌≡◌, List, length, leb, pos}
-use Rattle.record.specs.declared.Verdict.{Verdict}
+use Rattle.record.specs.Verdict.{Verdict}
 use Rattle.record.specs.Record.{board, most_events, sources_of, heads_of, values_of}
 use Rattle.record.specs.Questions.{read_verdict}
 use Rattle.record.specs.Answers.{all_yes, stored}

@@ -7,13 +7,13 @@ use mathlib.Core.List.{List, [], ◌∷◌}
 use borrow.Author.Tests.{eq-eqb, ne_eqb}
 use lib.Dec.{eqb}
 use lib.ListN.{length}
+use Rattle.std.specs.Prelude.{Result, Ok, Err}
+use Rattle.questions.specs.Numbers.{number_of}
 use Rattle.buffers.specs.Filled.{filled}
 use Rattle.record.specs.declared.Limits.{Limits}
-use Rattle.record.specs.declared.Verdict.{Verdict}
-use Rattle.record.specs.declared.ReadAnswer.{ReadAnswer}
-use Rattle.record.specs.declared.ReadAnswer.TheVariants as reading
-use Rattle.record.specs.declared.WriteAnswer.{WriteAnswer}
-use Rattle.record.specs.declared.WriteAnswer.TheVariants as writing
+use Rattle.record.specs.Verdict.{Verdict}
+use Rattle.record.specs.declared.Sizes.{Sizes}
+use Rattle.record.specs.declared.Refused.{Refused}
 use Rattle.record.specs.Record.{count_of, sources_of, words_from, length_of}
 use Rattle.record.specs.Questions.{read_verdict, write_verdict}
 use Rattle.record.specs.Answers.{Answer, done_with, refused_at, read_numbers, read_answer, read_heads, read_values, write_numbers, write_answer}
@@ -45,28 +45,28 @@ no-back (suc q) at number place x xs e =
     (suc-ne-zero q, ap (λ (a : Answer). a.refusal) e', ap (λ (a : Answer). a.place) e')
 
 -- What the answer of a writing tells.
-module _ (sources : ℕ) (heads values : List ℕ) (space : ℕ) {r : WriteAnswer}
+module _ (sources : ℕ) (heads values : List ℕ) (space : ℕ) {r : Result ℕ Refused}
     (e : write_numbers r ≡ write_answer sources heads values space) where
-  pub write_done : {l : ℕ} → r ≡ writing.Done l → ((write_verdict sources heads values space).refusal ≡ 0) × (l ≡ length_of (length heads))
+  pub write_done : {l : ℕ} → r ≡ Ok l → ((write_verdict sources heads values space).refusal ≡ 0) × (l ≡ length_of (length heads))
   write_done d =
       let f = yes-back _ (write_verdict sources heads values space).place _ _ (ap write_numbers (sym d) ∙ e) in
       (f.0, cc)
 
-  pub write-not : {number place : ℕ} → r ≡ writing.Refused number place
+  pub write-not : {x : Refused} → r ≡ Err x
       → ((write_verdict sources heads values space).refusal ≡ 0 → ⊥)
-      × (number ≡ (write_verdict sources heads values space).refusal) × (place ≡ (write_verdict sources heads values space).place)
+      × (number_of x.refusal ≡ (write_verdict sources heads values space).refusal) × (x.place ≡ (write_verdict sources heads values space).place)
   write-not d = no-back _ _ _ _ _ _ (ap write_numbers (sym d) ∙ e)
 
 -- What the answer of a reading tells.
-module _ (limits : Limits) (bytes : List ℕ) (head_places value_places : ℕ) {r : ReadAnswer}
+module _ (limits : Limits) (bytes : List ℕ) (head_places value_places : ℕ) {r : Result Sizes Refused}
     (e : read_numbers r ≡ read_answer limits bytes head_places value_places) where
-  pub read_done : {n s : ℕ} → r ≡ reading.Done n s
-      → ((read_verdict limits bytes head_places value_places).refusal ≡ 0) × (n ≡ count_of bytes) × (s ≡ sources_of bytes)
+  pub read_done : {x : Sizes} → r ≡ Ok x
+      → ((read_verdict limits bytes head_places value_places).refusal ≡ 0) × (x.events ≡ count_of bytes) × (x.sources ≡ sources_of bytes)
   read_done d =
       let f = yes-back _ (read_verdict limits bytes head_places value_places).place _ _ (ap read_numbers (sym d) ∙ e) in
       (f.0, cc, cc)
 
-  pub read-not : {number place : ℕ} → r ≡ reading.Refused number place
+  pub read-not : {x : Refused} → r ≡ Err x
       → ((read_verdict limits bytes head_places value_places).refusal ≡ 0 → ⊥)
-      × (number ≡ (read_verdict limits bytes head_places value_places).refusal) × (place ≡ (read_verdict limits bytes head_places value_places).place)
+      × (number_of x.refusal ≡ (read_verdict limits bytes head_places value_places).refusal) × (x.place ≡ (read_verdict limits bytes head_places value_places).place)
   read-not d = no-back _ _ _ _ _ _ (ap read_numbers (sym d) ∙ e)

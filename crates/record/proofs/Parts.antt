@@ -7,10 +7,11 @@ use borrow.Author.Tests.{eq-eqb}
 use lib.Dec.{lit<}
 use lib.ListN.{length, take, drop}
 use lib.Seq.{take_at}
+use Rattle.std.specs.Prelude.{Result, Ok}
 use Rattle.record.specs.declared.Limits.{Limits}
-use Rattle.record.specs.declared.Verdict.{Verdict}
-use Rattle.record.specs.declared.ReadAnswer.{ReadAnswer}
-use Rattle.record.specs.declared.ReadAnswer.TheVariants as reading
+use Rattle.record.specs.Verdict.{Verdict}
+use Rattle.record.specs.declared.Sizes.{Sizes}
+use Rattle.record.specs.declared.Refused.{Refused}
 use Rattle.record.specs.Words.{words_of}
 use Rattle.record.specs.Record.{count_of, sources_of, heads_of, values_of}
 use Rattle.record.specs.Questions.{read_verdict}
@@ -33,10 +34,10 @@ pub record Parts (limits : Limits) (bytes : List ℕ) (head_places value_places 
   pub heads : take n hs ≡ heads_of bytes
   pub values : take n vs ≡ values_of bytes
 
-pub read-parts : (limits : Limits) (bytes heads values : List ℕ) {r : ReadAnswer} {hs vs : List ℕ} {n s : ℕ} → read_numbers r ≡ read_answer limits bytes (length heads) (length values)
-    → hs ≡ read_heads limits bytes heads values → vs ≡ read_values limits bytes heads values → r ≡ reading.Done n s
-    → Parts limits bytes (length heads) (length values) n s hs vs
-read-parts limits bytes heads values {r} {hs} {vs} {n} {s} e eh ev er =
+pub read-parts : (limits : Limits) (bytes heads values : List ℕ) {r : Result Sizes Refused} {hs vs : List ℕ} {x : Sizes} → read_numbers r ≡ read_answer limits bytes (length heads) (length values)
+    → hs ≡ read_heads limits bytes heads values → vs ≡ read_values limits bytes heads values → r ≡ Ok x
+    → Parts limits bytes (length heads) (length values) x.events x.sources hs vs
+read-parts limits bytes heads values {r} {hs} {vs} {x} e eh ev er =
     let done = read_done limits bytes (length heads) (length values) e er in
     let ok = readable limits bytes (length heads) (length values) done.0 in
     let v = read_verdict limits bytes (length heads) (length values) in
@@ -45,8 +46,8 @@ read-parts limits bytes heads values {r} {hs} {vs} {n} {s} e eh ev er =
       accepts = ok;
       count = done.1;
       sources = done.2;
-      heads = stored-part v (heads_of bytes) heads n done.0 (heads-length bytes (count_of bytes) ok.whole ∙ sym done.1) eh;
-      values = stored-part v (values_of bytes) values n done.0 (values_length bytes (count_of bytes) ok.whole ∙ sym done.1) ev;
+      heads = stored-part v (heads_of bytes) heads x.events done.0 (heads-length bytes (count_of bytes) ok.whole ∙ sym done.1) eh;
+      values = stored-part v (values_of bytes) values x.events done.0 (values_length bytes (count_of bytes) ok.whole ∙ sym done.1) ev;
     }
 
 below-take : (b n : ℕ) (l : List ℕ) → 0 < b → Below b l → Below b (take n l)

@@ -10,7 +10,7 @@ use lib.Dec.{eqb}
 use lib.ListN.{length}
 use Rattle.event.specs.Event.{shape_of}
 use Rattle.record.specs.declared.Limits.{Limits}
-use Rattle.record.specs.declared.Verdict.{Verdict}
+use Rattle.record.specs.Verdict.{Verdict}
 use Rattle.record.specs.Record.{most_events, count_of, sources_of, heads_of, values_of, length_of}
 use Rattle.record.specs.Questions.{verdict, no_refusal, question, holds_sizes, arrays_hold, walk, read_verdict}
 use Rattle.record.proofs.Questions.{sizes_then, sizes-few, read-no-1, read-no-sizes, read-no-4, read-no-5, read_walk}

@@ -4,16 +4,23 @@ use mathlib.Core.Bool.{Bool, true, false, not, ◌&&◌, true≢false}
 use Prim.Native.Nat.{ℕ, suc, ◌+◌, ◌≤◌, ◌<◌}
 use native.Mathlib.Omega.{arith}
 use mathlib.Core.List.{List}
-use borrow.Author.Tests.{leb-true, eqb-true, le-leb, lt-leb, eq-eqb, ne_eqb, not-true, not-false}
+use borrow.Author.Tests.{leb-true, eqb-true, eqb-false, le-leb, lt-leb, eq-eqb, ne_eqb, not-true, not-false}
 use lib.Dec.{lit<, leb, eqb}
 use lib.ListN.{length}
+use Rattle.questions.specs.declared.Refusal.{Refusal}
+use Rattle.questions.specs.Numbers.{number_of}
+use Rattle.questions.proofs.Numbers.{never_0}
 use Rattle.event.specs.Event.{shape_of}
 use Rattle.source_count.specs.Count.{most_sources, is_count}
 use Rattle.record.specs.declared.Limits.{Limits}
-use Rattle.record.specs.declared.Verdict.{Verdict}
+use Rattle.record.specs.Verdict.{Verdict}
 use Rattle.record.specs.Record.{count_of, sources_of, heads_of, values_of, words_from, length_of, most_events}
 use Rattle.record.specs.Questions.{verdict, no_refusal, question, sources_taken, count_in_range, count_taken, arrays_hold, write_shape_of, walk, read_verdict, verdict_within, write_verdict}
 use Rattle.record.proofs.Walk.{walk_first}
+
+-- A refusal has a number.
+pub refuses : (r : Refusal) → number_of r ≡ 0 → ⊥
+refuses r = eqb-false (number_of r) 0 (never_0 r)
 
 -- What the code asks of a call's answer, asked of the rule that gives it.
 pub answered-no : {r t u : Bool} → r ≡ t → not r ≡ u → not t ≡ u
@@ -152,6 +159,10 @@ readable limits bytes hp vp h =
       events = q5.1;
     }
 
+-- The same from what the code answers.
+pub accepted : {limits : Limits} {bytes : List ℕ} {hp vp : ℕ} → no_refusal ≡ read_verdict limits bytes hp vp → Readable limits bytes hp vp
+accepted e = readable _ _ _ _ (ap (λ (v : Verdict). v.refusal) (sym e))
+
 -- The answers of an accepted writing.
 pub record Writable (sources : ℕ) (heads values : List ℕ) (space : ℕ) : Type 0 where
   pub two : 2 ≤ sources
@@ -178,6 +189,10 @@ writable sources heads values space h =
       holds = leb-true _ _ q5.0;
       events = q5.1;
     }
+
+pub writes : {sources : ℕ} {heads values : List ℕ} {space : ℕ} → no_refusal ≡ write_verdict sources heads values space
+    → Writable sources heads values space
+writes e = writable _ _ _ _ (ap (λ (v : Verdict). v.refusal) (sym e))
 
 -- A writing that question 6 or a later one refuses: the place is that of an event.
 later : (n k : ℕ) (answer : Bool) (next : Verdict) → k < 6 → (answer ≡ true → 6 ≤ next.refusal → next.place < n)

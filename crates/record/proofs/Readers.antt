@@ -10,7 +10,7 @@ use lib.ListN.{length}
 use Rattle.event.specs.Event.{shape_of}
 use Rattle.source_count.specs.Count.{most_sources}
 use Rattle.record.specs.declared.Limits.{Limits}
-use Rattle.record.specs.declared.Verdict.{Verdict}
+use Rattle.record.specs.Verdict.{Verdict}
 use Rattle.record.specs.Record.{board, compact, most_events, count_of, sources_of, heads_of, values_of, length_of}
 use Rattle.record.specs.Questions.{verdict, question, holds_sizes, sources_taken, count_in_range, count_taken, arrays_hold, walk, read_verdict, verdict_within, board_verdict}
 use Rattle.record.specs.Answers.{all_yes}

@@ -10,7 +10,7 @@ use lib.ListN.{length, get_or, take}
 use lib.Seq.{get_or-take, length-take-le}
 use Rattle.source_count.specs.Count.{is_count}
 use Rattle.record.specs.declared.Limits.{Limits}
-use Rattle.record.specs.declared.Verdict.{Verdict}
+use Rattle.record.specs.Verdict.{Verdict}
 use Rattle.record.specs.Words.{words_of}
 use Rattle.record.specs.Record.{count_of, sources_of, length_of}
 use Rattle.record.specs.Questions.{verdict, question, sources_taken, count_in_range, count_taken, read_verdict}

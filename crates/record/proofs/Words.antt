@@ -5,8 +5,9 @@ use native.Mathlib.Nat.{div-div-eq-div-mul}
 use native.Mathlib.Numerals.{add-one}
 use native.Mathlib.Omega.{arith}
 use mathlib.Core.List.{List, [], ◌∷◌, ◌++◌}
-use lib.ListN.{length, get_or, set, take, drop, length-drop}
+use lib.ListN.{length, get_or, set, take, drop, length-drop, drop_of_length-le}
 use lib.Seq.{sets, take-suc, length-take-le, get_or-take, get_or-drop}
+use Rattle.std.proofs.lemmas.List.{append-nil}
 use Rattle.buffers.proofs.Stores.{sets_then, sets-filled}
 use Rattle.buffers.specs.Filled.{filled}
 use Rattle.record.specs.Words.{word_of, words_of, bytes_of, bytes_of_words}
@@ -109,15 +110,22 @@ module _ (bytes : List ℕ) (k n : ℕ) (d₀ : List ℕ) (long : 4 * (k + n) �
       let m : i ≡ 0 + length (take i ws) = simp (length-take-le i ws (omega arith)) (omega arith) in
       rw (e, ew, ← get_or-drop k (words_of bytes) i 0, add-one, take-suc ws i 0 l) (sets_then d₀ 0 (take i ws) (get_or ws i 0 ∷ []) i m)
 
-  pub words-end : i ≤ n → n ≤ i → n ≤ length d₀ → d ≡ filled (take n ws) d₀
-  words-end a b h =
+  pub words-end : n ≡ length d₀ → n ≤ i → i ≤ n → d ≡ take n ws
+  words-end all a b =
       let same : i ≡ n = omega arith in
-      let l : length (take n ws) ≤ length d₀ = simp (length-take-le n ws (length-words-from bytes k n long)) h in
-      rw (e, same) (sets-filled d₀ (take n ws) l)
+      let len : length (take n ws) ≡ n = length-take-le n ws (length-words-from bytes k n long) in
+      let l : length (take n ws) ≤ length d₀ = omega arith in
+      let past : length d₀ ≤ length (take n ws) = omega arith in
+      rw (e, same) (sets-filled d₀ (take n ws) l ∙ rw (drop_of_length-le d₀ past) (append-nil (take n ws)))
 
 -- The list of n words from word k on: its length, and word i of it.
 pub length_from : (bytes : List ℕ) (k n : ℕ) → 4 * (k + n) ≤ length bytes → length (take n (drop k (words_of bytes))) ≡ n
 length_from bytes k n h = length-take-le n _ (length-words-from bytes k n h)
+
+-- These words, stored in the first places of a list.
+pub words-filled : (bytes : List ℕ) (k n : ℕ) (old : List ℕ) {new : List ℕ} → 4 * (k + n) ≤ length bytes → n ≤ length old
+    → new ≡ take (length (take n old)) (drop k (words_of bytes)) → new ++ drop n old ≡ filled (take n (drop k (words_of bytes))) old
+words-filled bytes k n old long holds e = rw (e, length-take-le n old holds, length_from bytes k n long) refl
 
 pub word-from : (bytes : List ℕ) (k n i : ℕ) → i < n → get_or (take n (drop k (words_of bytes))) i 0 ≡ get_or (words_of bytes) (k + i) 0
 word-from bytes k n i h = get_or-take n _ i 0 h ∙ get_or-drop k (words_of bytes) i 0

@@ -1,12 +1,11 @@
 -- Document 01, "The record": what the reader and the writer answer, and what they leave in what they were lent.
-use Rattle.std.specs.Prelude.{ℕ, Bool, cond, List, [], ◌∷◌, length, eqb}
+use Rattle.std.specs.Prelude.{ℕ, Bool, cond, List, [], ◌∷◌, length, eqb, Result, Ok, Err}
+use Rattle.questions.specs.Numbers.{number_of}
 use Rattle.buffers.specs.Filled.{filled}
 use Rattle.record.specs.declared.Limits.{Limits}
-use Rattle.record.specs.declared.Verdict.{Verdict}
-use Rattle.record.specs.declared.ReadAnswer.{ReadAnswer}
-use Rattle.record.specs.declared.ReadAnswer.TheVariants as reading
-use Rattle.record.specs.declared.WriteAnswer.{WriteAnswer}
-use Rattle.record.specs.declared.WriteAnswer.TheVariants as writing
+use Rattle.record.specs.Verdict.{Verdict}
+use Rattle.record.specs.declared.Sizes.{Sizes}
+use Rattle.record.specs.declared.Refused.{Refused}
 use Rattle.record.specs.Record.{record_of, count_of, sources_of, heads_of, values_of, length_of}
 use Rattle.record.specs.Questions.{read_verdict, write_verdict}
 
@@ -25,14 +24,14 @@ abbrev pub refused_at : ℕ → ℕ → Answer
 refused_at number at = record { refusal = number; place = at; values = [] }
 
 -- Number and values of each answer of the reader: n and N, or number and place.
-abbrev pub read_numbers : ReadAnswer → Answer
-read_numbers (reading.Done events sources) = done_with (events ∷ sources ∷ [])
-read_numbers (reading.Refused number at) = refused_at number at
+abbrev pub read_numbers : Result Sizes Refused → Answer
+read_numbers (Ok sizes) = done_with (sizes.events ∷ sizes.sources ∷ [])
+read_numbers (Err r) = refused_at (number_of r.refusal) r.place
 
 -- Number and values of each answer of the writer: the length, or number and place.
-abbrev pub write_numbers : WriteAnswer → Answer
-write_numbers (writing.Done count) = done_with (count ∷ [])
-write_numbers (writing.Refused number at) = refused_at number at
+abbrev pub write_numbers : Result ℕ Refused → Answer
+write_numbers (Ok count) = done_with (count ∷ [])
+write_numbers (Err r) = refused_at (number_of r.refusal) r.place
 
 -- No question was answered no.
 abbrev pub all_yes : Verdict → Bool

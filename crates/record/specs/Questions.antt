@@ -1,10 +1,13 @@
 -- Document 01, "Questions, first no decides": 1 to 7, reading and writing; document 02, No. 3: 22 and 23, reading; No. 8: 27, writing.
-use Rattle.std.specs.Prelude.{ℕ, suc, Bool, ◌&&◌, cond, List, [], ◌∷◌, length, leb, eqb}
+use Rattle.std.specs.Prelude.{ℕ, suc, Bool, ◌&&◌, cond, List, [], ◌∷◌, length, leb, eqb, Result, Ok, Err}
+use Rattle.questions.specs.declared.Refusal.{Refusal}
+use Rattle.questions.specs.Numbers.{number_of}
 use Rattle.source_count.specs.Count.{is_count}
 use Rattle.event.specs.Kinds as kind
 use Rattle.event.specs.Event.{kind_of, is_kind, shape_of}
 use Rattle.record.specs.declared.Limits.{Limits}
-use Rattle.record.specs.declared.Verdict.{Verdict}
+use Rattle.record.specs.declared.Refused.{Refused}
+use Rattle.record.specs.Verdict.{Verdict}
 use Rattle.record.specs.Record.{count_of, sources_of, heads_of, values_of, length_of, board, compact, most_events}
 
 -- The number of the question that was answered no, and the place.
@@ -14,6 +17,15 @@ verdict number at = record { refusal = number; place = at }
 -- Every question was answered yes.
 abbrev pub no_refusal : Verdict
 no_refusal = verdict 0 0
+
+-- A refusal whose place is 0.
+abbrev pub at_0 : Refusal → Refused
+at_0 r = record { refusal = r; place = 0 }
+
+-- Number and place of each case: 0 and 0 where every question was answered yes.
+abbrev pub verdict_in : Result Unit Refused → Verdict
+verdict_in (Ok _) = no_refusal
+verdict_in (Err r) = verdict (number_of r.refusal) r.place
 
 -- First no decides: on yes the questions after this one are asked. For 1 to 5 the place is 0, and for 22 and 23 too.
 abbrev pub question : ℕ → Bool → Verdict → Verdict

@@ -3,7 +3,7 @@ use Rattle.std.specs.Prelude.{ℕ, Bool, ◌&&◌, not, cond, ◌≡◌, List, l
 use Rattle.event.specs.Event.{shape_of}
 use Rattle.source_count.specs.Count.{is_count}
 use Rattle.record.specs.declared.Limits.{Limits}
-use Rattle.record.specs.declared.Verdict.{Verdict}
+use Rattle.record.specs.Verdict.{Verdict}
 use Rattle.record.specs.Record.{count_of, sources_of, heads_of, values_of, length_of}
 use Rattle.record.specs.Questions.{verdict, question, holds_sizes, sources_taken, count_in_range, count_taken, arrays_hold, walk}
 use Rattle.record.specs.Answers.{all_yes}

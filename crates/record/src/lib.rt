@@ -2,14 +2,15 @@
 #![tactic(auto)]
 
 ghost use Rattle.std.specs.Prelude.{◌≡◌, ◌+◌, ◌*◌, ◌≤◌, length, get_or};
-ghost use Rattle.buffers.specs.Filled.{filled};
+ghost use Rattle.questions.specs.Numbers.{number_in};
 ghost use Rattle.event.specs.Event.{shape_of};
 ghost use Rattle.source_count.specs.Count.{is_count};
-ghost use Rattle.record.specs.Words.{word_of, words_of};
+ghost use Rattle.record.specs.Words.{words_of};
 ghost use Rattle.record.specs.Record.{board, compact, words_from, length_of};
-ghost use Rattle.record.specs.Questions.{no_refusal, question, sources_taken, count_in_range, count_taken, walk, read_verdict};
+ghost use Rattle.record.specs.Questions.{no_refusal, at_0, verdict_in, question, sources_taken, count_in_range, count_taken, walk, read_verdict};
 ghost use Rattle.record.specs.Answers.{read_numbers, read_answer, read_heads, read_values};
 
+use questions::Refusal;
 use source_count::{MOST_SOURCES, is_count};
 
 // The most events.
@@ -44,32 +45,26 @@ pub const COMPACT: Limits = Limits {
     events: COMPACT_EVENTS as u32,
 };
 
-// The question that was answered no and the place; 0 and 0 where none was.
-#[derive(Clone, Copy)]
-pub struct Verdict {
-    pub refusal: u8,
+// What an accepted record holds: n events, and N.
+#[derive(Clone, Copy, Debug, PartialEq, Eq)]
+pub struct Sizes {
+    pub events: usize,
+    pub sources: u32,
+}
+
+// The question that was answered no, and the place: the event's index, or 0.
+#[derive(Clone, Copy, Debug, PartialEq, Eq)]
+pub struct Refused {
+    pub refusal: Refusal,
     pub place: usize,
 }
 
-// What reading answers.
-#[derive(Clone, Copy)]
-pub enum ReadAnswer {
-    Done { events: usize, sources: u32 },
-    Refused { refusal: u8, place: usize },
-}
+impl From<Refusal> for Refused {
+    ghost from_gives = { λ refusal refused. refused ≡ at_0 refusal };
 
-// What writing answers.
-#[derive(Clone, Copy)]
-pub enum WriteAnswer {
-    Done { length: usize },
-    Refused { refusal: u8, place: usize },
-}
-
-// The word of four bytes, the least first.
-fn word_of(a: u8, b: u8, c: u8, d: u8) -> u32
-    ensures { result ≡ word_of a b c d }
-{
-    (a as u32) + 256 * (b as u32) + 65536 * (c as u32) + 16777216 * (d as u32)
+    fn from(refusal: Refusal) -> Refused {
+        Refused { refusal, place: 0 }
+    }
 }
 
 // Word k of the bytes.
@@ -78,93 +73,76 @@ fn word(bytes: &[u8], k: usize) -> u32
     ensures { result ≡ get_or (words_of bytes.now) k 0 }
 {
     let at = 4 * k;
-    word_of(bytes[at], bytes[at + 1], bytes[at + 2], bytes[at + 3])
+    u32::from_le_bytes([bytes[at], bytes[at + 1], bytes[at + 2], bytes[at + 3]])
 }
 
-// Stores n words of the bytes, from word k on, in the first n places.
-fn read_words(bytes: &[u8], k: usize, n: usize, to: &mut [u32])
-    requires { (4 * (k + n) ≤ length bytes.now) × (n ≤ length to.old) }
-    ensures { to.new ≡ filled (words_from bytes.now k n) to.old }
+// Fills a list with the words of the bytes, from word k on.
+fn read_words(bytes: &[u8], k: usize, to: &mut [u32])
+    requires { 4 * (k + length to.old) ≤ length bytes.now }
+    ensures { to.new ≡ words_from bytes.now k (length to.old) }
 {
-    let mut i: usize = 0;
-    while i < n {
-        to[i] = word(bytes, k + i);
-        i += 1;
+    for (i, place) in to.iter_mut().enumerate() {
+        *place = word(bytes, k + i);
     }
 }
 
 // Questions 6 and 7 of n events in the bytes of a record.
-fn walk_bytes(bytes: &[u8], n: usize) -> Verdict
+fn walk_bytes(bytes: &[u8], n: usize) -> Result<(), Refused>
     requires { length bytes.now ≡ length_of n }
-    ensures { result ≡ walk shape_of (words_from bytes.now 2 n) (words_from bytes.now (2 + n) n) }
+    ensures { verdict_in result ≡ walk shape_of (words_from bytes.now 2 n) (words_from bytes.now (2 + n) n) }
 {
     let mut i: usize = 0;
-    let verdict = loop {
+    loop {
         if n <= i {
-            break Verdict {
-                refusal: 0,
-                place: 0,
-            };
+            break Ok(());
         }
-        let number = event::shape(word(bytes, 2 + i), word(bytes, 2 + n + i));
-        if number != 0 {
-            break Verdict {
-                refusal: number,
-                place: i,
-            };
+        match event::shape(word(bytes, 2 + i), word(bytes, 2 + n + i)) {
+            Ok(()) => i += 1,
+            Err(refusal) => break Err(Refused { refusal, place: i }),
         }
-        i += 1;
-    };
-    verdict
+    }
 }
 
-// Questions 2, 22, 3 and 23 of N and n: the number of the first that is answered no, or 0.
-fn ask_sizes(limits: Limits, sources: u32, count: u32) -> u8
-    ensures { result ≡ (question 2 (is_count sources) (question 22 (sources_taken limits sources)
+// Questions 2, 22, 3 and 23 of N and n.
+fn ask_sizes(limits: Limits, sources: u32, count: u32) -> Result<(), Refusal>
+    ensures { number_in result ≡ (question 2 (is_count sources) (question 22 (sources_taken limits sources)
         (question 3 (count_in_range count) (question 23 (count_taken limits count) no_refusal)))).refusal }
 {
     if !is_count(sources) {
-        return 2;
+        return Err(Refusal::SourceCount);
     }
     if limits.sources < sources {
-        return 22;
+        return Err(Refusal::CompactSources);
     }
     if (MOST_EVENTS as u32) < count {
-        return 3;
+        return Err(Refusal::TooManyEvents);
     }
     if limits.events < count {
-        return 23;
+        return Err(Refusal::CompactEvents);
     }
-    0
+    Ok(())
 }
 
 // Questions 1 to 7, reading.
-fn ask_reading(limits: Limits, bytes: &[u8], head_places: usize, value_places: usize) -> Verdict
-    ensures { result ≡ read_verdict limits bytes.now head_places value_places }
+fn ask_reading(
+    limits: Limits,
+    bytes: &[u8],
+    head_places: usize,
+    value_places: usize,
+) -> Result<(), Refused>
+    ensures { verdict_in result ≡ read_verdict limits bytes.now head_places value_places }
 {
     if bytes.len() < 8 {
-        return Verdict {
-            refusal: 1,
-            place: 0,
-        };
+        return Err(Refusal::TooShort.into());
     }
     let count = word(bytes, 0);
-    let refusal = ask_sizes(limits, word(bytes, 1), count);
-    if refusal != 0 {
-        return Verdict { refusal, place: 0 };
-    }
+    ask_sizes(limits, word(bytes, 1), count)?;
     let n = count as usize;
     if bytes.len() != 8 + 8 * n {
-        return Verdict {
-            refusal: 4,
-            place: 0,
-        };
+        return Err(Refusal::WrongLength.into());
     }
     if !((n <= head_places) & (n <= value_places)) {
-        return Verdict {
-            refusal: 5,
-            place: 0,
-        };
+        return Err(Refusal::NoRoom.into());
     }
     walk_bytes(bytes, n)
 }
@@ -175,29 +153,23 @@ pub fn read_within(
     bytes: &[u8],
     heads: &mut [u32],
     values: &mut [u32],
-) -> ReadAnswer
+) -> Result<Sizes, Refused>
     ensures result_value { read_numbers result ≡ read_answer limits bytes.now (length heads.old) (length values.old) }
     ensures heads_after { heads.new ≡ read_heads limits bytes.now heads.old values.old }
     ensures values_after { values.new ≡ read_values limits bytes.now heads.old values.old }
 {
-    let verdict = ask_reading(limits, bytes, heads.len(), values.len());
-    if verdict.refusal != 0 {
-        return ReadAnswer::Refused {
-            refusal: verdict.refusal,
-            place: verdict.place,
-        };
-    }
-    let n = word(bytes, 0) as usize;
-    read_words(bytes, 2, n, heads);
-    read_words(bytes, 2 + n, n, values);
-    ReadAnswer::Done {
-        events: n,
+    ask_reading(limits, bytes, heads.len(), values.len())?;
+    let events = word(bytes, 0) as usize;
+    read_words(bytes, 2, &mut heads[..events]);
+    read_words(bytes, 2 + events, &mut values[..events]);
+    Ok(Sizes {
+        events,
         sources: word(bytes, 1),
-    }
+    })
 }
 
 // Reads any record: accepted, heads and values fill the first places of the arrays; refused, both stay as they were.
-pub fn read(bytes: &[u8], heads: &mut [u32], values: &mut [u32]) -> ReadAnswer
+pub fn read(bytes: &[u8], heads: &mut [u32], values: &mut [u32]) -> Result<Sizes, Refused>
     ensures result_value { read_numbers result ≡ read_answer board bytes.now (length heads.old) (length values.old) }
     ensures heads_after { heads.new ≡ read_heads board bytes.now heads.old values.old }
     ensures values_after { values.new ≡ read_values board bytes.now heads.old values.old }
@@ -206,7 +178,7 @@ pub fn read(bytes: &[u8], heads: &mut [u32], values: &mut [u32]) -> ReadAnswer
 }
 
 // Reads a short record, as read does: the compact reader.
-pub fn read_compact(bytes: &[u8], heads: &mut [u32], values: &mut [u32]) -> ReadAnswer
+pub fn read_compact(bytes: &[u8], heads: &mut [u32], values: &mut [u32]) -> Result<Sizes, Refused>
     ensures result_value { read_numbers result ≡ read_answer compact bytes.now (length heads.old) (length values.old) }
     ensures heads_after { heads.new ≡ read_heads compact bytes.now heads.old values.old }
     ensures values_after { values.new ≡ read_values compact bytes.now heads.old values.old }

@@ -10,7 +10,7 @@ use lib.Seq.{take_at, drop_at, take_all, take-length, drop-drop}
 use Rattle.event.specs.Event.{shape_of}
 use Rattle.buffers.specs.Filled.{filled}
 use Rattle.record.specs.declared.Limits.{Limits}
-use Rattle.record.specs.declared.Verdict.{Verdict}
+use Rattle.record.specs.Verdict.{Verdict}
 use Rattle.record.specs.Words.{words_of}
 use Rattle.record.specs.Record.{most_events, record_of, count_of, sources_of, heads_of, values_of, length_of}
 use Rattle.record.specs.Questions.{question, no_refusal, arrays_hold, write_shape_of, walk, read_verdict, write_verdict}

@@ -3,7 +3,7 @@
 use Rattle.std.specs.Prelude.{cond, ℕ, ◌≤◌, ◌≡◌, List, [], ◌∷◌, length}
 use Rattle.buffers.specs.Filled.{filled}
 use Rattle.record.specs.declared.Limits.{Limits}
-use Rattle.record.specs.declared.Verdict.{Verdict}
+use Rattle.record.specs.Verdict.{Verdict}
 use Rattle.record.specs.Record.{record_of, sources_of, heads_of, values_of}
 use Rattle.record.specs.Questions.{read_verdict, write_verdict}
 use Rattle.record.specs.Retired.{NoneRetired, FirstRetired}

@@ -7,7 +7,7 @@ use borrow.Author.Tests.{le-leb, lt-leb, eq-eqb, ne_eqb, not-true, not-false}
 use lib.ListN.{length}
 use Rattle.source_count.specs.Count.{is_count}
 use Rattle.buffers.specs.Filled.{filled}
-use Rattle.record.specs.declared.Verdict.{Verdict}
+use Rattle.record.specs.Verdict.{Verdict}
 use Rattle.record.specs.Record.{most_events, record_of, length_of}
 use Rattle.record.specs.Questions.{verdict, write_shape_of, walk, write_verdict}
 use Rattle.record.specs.Answers.{done_with, refused_at, write_answer, written_bytes}

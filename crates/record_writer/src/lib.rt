@@ -4,12 +4,14 @@
 ghost use Rattle.std.specs.Prelude.{◌≡◌, ◌+◌, ◌*◌, ◌^◌, ◌≤◌, ◌<◌, length};
 ghost use Rattle.std.proofs.lemmas.List.Edits.{sets};
 ghost use Rattle.buffers.specs.Filled.{filled};
+ghost use Rattle.questions.specs.Numbers.{number_in};
 ghost use Rattle.record.specs.Words.{bytes_of, bytes_of_words};
 ghost use Rattle.record.specs.Record.{record_of, length_of};
-ghost use Rattle.record.specs.Questions.{write_shape_of, walk, write_verdict};
+ghost use Rattle.record.specs.Questions.{verdict_in, write_shape_of, walk, write_verdict};
 ghost use Rattle.record.specs.Answers.{write_numbers, write_answer, written_bytes};
 
-use record::{MOST_EVENTS, Verdict, WriteAnswer};
+use questions::Refusal;
+use record::{MOST_EVENTS, Refused};
 
 // Stores w as word k of the bytes.
 fn put_word(bytes: &mut [u8], k: usize, w: u32)
@@ -17,10 +19,7 @@ fn put_word(bytes: &mut [u8], k: usize, w: u32)
     ensures { bytes.new ≡ sets bytes.old (4 * k) (bytes_of w) }
 {
     let at = 4 * k;
-    bytes[at] = (w % 256) as u8;
-    bytes[at + 1] = (w / 256 % 256) as u8;
-    bytes[at + 2] = (w / 65536 % 256) as u8;
-    bytes[at + 3] = (w / 16777216 % 256) as u8;
+    bytes[at..at + 4].copy_from_slice(&w.to_le_bytes());
 }
 
 // Stores the words in the bytes, from word k on.
@@ -28,10 +27,8 @@ fn put_words(bytes: &mut [u8], k: usize, words: &[u32])
     requires { 4 * (k + length words.now) ≤ length bytes.old }
     ensures { bytes.new ≡ sets bytes.old (4 * k) (bytes_of_words words.now) }
 {
-    let mut i: usize = 0;
-    while i < words.len() {
-        put_word(bytes, k + i, words[i]);
-        i += 1;
+    for (i, w) in words.iter().enumerate() {
+        put_word(bytes, k + i, *w);
     }
 }
 
@@ -48,87 +45,63 @@ fn put_record(sources: u32, heads: &[u32], values: &[u32], bytes: &mut [u8])
     put_words(bytes, 2 + n, values);
 }
 
-// Questions 6, 27 and 7 of an event that is written: 0 where each is answered yes, else the number of the first no.
-fn write_shape(head: u32, value: u32) -> u8
-    ensures { result ≡ write_shape_of head value }
+// Questions 6, 27 and 7 of an event that is written. One of kind 7 is of a kind, so 27 is asked before 6 here.
+fn write_shape(head: u32, value: u32) -> Result<(), Refusal>
+    ensures { number_in result ≡ write_shape_of head value }
 {
-    let refusal = event::shape(head, value);
-    if refusal == 6 {
-        return refusal;
-    }
     if event::kind(head) == event::kinds::CHAIN {
-        return 27;
+        return Err(Refusal::RetiredKind);
     }
-    refusal
+    event::shape(head, value)
 }
 
 // Questions 6, 27 and 7 of the events in two arrays.
-fn walk_arrays(heads: &[u32], values: &[u32]) -> Verdict
+fn walk_arrays(heads: &[u32], values: &[u32]) -> Result<(), Refused>
     requires { length heads.now ≡ length values.now }
-    ensures { result ≡ walk write_shape_of heads.now values.now }
+    ensures { verdict_in result ≡ walk write_shape_of heads.now values.now }
 {
     let mut i: usize = 0;
-    let verdict = loop {
+    loop {
         if heads.len() <= i {
-            break Verdict {
-                refusal: 0,
-                place: 0,
-            };
+            break Ok(());
         }
-        let refusal = write_shape(heads[i], values[i]);
-        if refusal != 0 {
-            break Verdict { refusal, place: i };
+        match write_shape(heads[i], values[i]) {
+            Ok(()) => i += 1,
+            Err(refusal) => break Err(Refused { refusal, place: i }),
         }
-        i += 1;
-    };
-    verdict
+    }
 }
 
 // Questions 2 to 7 and 27, writing.
-fn ask_writing(sources: u32, heads: &[u32], values: &[u32], space: usize) -> Verdict
-    ensures { result ≡ write_verdict sources heads.now values.now space }
+fn ask_writing(sources: u32, heads: &[u32], values: &[u32], space: usize) -> Result<(), Refused>
+    ensures { verdict_in result ≡ write_verdict sources heads.now values.now space }
 {
     if !source_count::is_count(sources) {
-        return Verdict {
-            refusal: 2,
-            place: 0,
-        };
+        return Err(Refusal::SourceCount.into());
     }
     if MOST_EVENTS < heads.len() {
-        return Verdict {
-            refusal: 3,
-            place: 0,
-        };
+        return Err(Refusal::TooManyEvents.into());
     }
     if heads.len() != values.len() {
-        return Verdict {
-            refusal: 4,
-            place: 0,
-        };
+        return Err(Refusal::WrongLength.into());
     }
     if space < 8 + 8 * heads.len() {
-        return Verdict {
-            refusal: 5,
-            place: 0,
-        };
+        return Err(Refusal::NoRoom.into());
     }
     walk_arrays(heads, values)
 }
 
-// Writes a record: accepted, it fills the first bytes; refused, all of them stay as they were.
-pub fn write(sources: u32, heads: &[u32], values: &[u32], bytes: &mut [u8]) -> WriteAnswer
+// Writes a record: accepted, it fills the first bytes and answers their number; refused, all of them stay as they were.
+pub fn write(
+    sources: u32,
+    heads: &[u32],
+    values: &[u32],
+    bytes: &mut [u8],
+) -> Result<usize, Refused>
     ensures result_value { write_numbers result ≡ write_answer sources heads.now values.now (length bytes.old) }
     ensures bytes_after { bytes.new ≡ written_bytes sources heads.now values.now bytes.old }
 {
-    let verdict = ask_writing(sources, heads, values, bytes.len());
-    if verdict.refusal != 0 {
-        return WriteAnswer::Refused {
-            refusal: verdict.refusal,
-            place: verdict.place,
-        };
-    }
+    ask_writing(sources, heads, values, bytes.len())?;
     put_record(sources, heads, values, bytes);
-    WriteAnswer::Done {
-        length: 8 + 8 * heads.len(),
-    }
+    Ok(8 + 8 * heads.len())
 }

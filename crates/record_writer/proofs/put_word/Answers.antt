@@ -1,16 +1,17 @@
 use native.Mathlib.Omega.{arith}
-use native.Mathlib.Numerals.{towards_suc}
-use lib.ListN.{length-set}
+use Prim.Native.Nat.{◌+◌, ◌*◌, ◌-◌, ◌≤◌}
+use mathlib.Core.Path.{◌≡◌, sym, ◌∙◌}
+use lib.ListN.{length, take, drop}
+use lib.Seq.{sets-eq}
+use Rattle.std.proofs.Common.{append_assoc, drop-drop}
+use Rattle.record.specs.Words.{bytes_of}
 use Rattle.record_writer.proofs.put_word.Goals as goal
 
-pub bounds-bytes-at-2 : goal.bounds-bytes-at-2
-bounds-bytes-at-2 c = simp length-set (omega arith)
-
-pub bounds-bytes-at-3 : goal.bounds-bytes-at-3
-bounds-bytes-at-3 c = simp length-set (omega arith)
-
-pub bounds-bytes-at-4 : goal.bounds-bytes-at-4
-bounds-bytes-at-4 c = simp length-set (omega arith)
-
 pub returns : goal.returns
-returns c = simp towards_suc
+returns c =
+    let at = 4 * c.args.k in
+    let bytes = c.args.bytes.now in
+    let four : at + 4 - at ≡ 4 = omega arith in
+    let long : at + 4 ≤ length bytes = omega arith in
+    rw (four, c.copy_from_slice.ensures.after, c.to_le_bytes.ensures, drop-drop)
+    (sym (sets-eq (bytes_of c.args.w) bytes at long ∙ append_assoc (take at bytes) (bytes_of c.args.w) (drop (at + 4) bytes)))

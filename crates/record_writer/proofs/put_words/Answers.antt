@@ -11,14 +11,10 @@ unfolding bytes_of_words
 loop-i-init c = search rules
 
 pub loop-i-preserved : goal.loop-i-preserved
-loop-i-preserved c =
-    let put = c.before.before in
-    let test = put.before.before.before in
-    (search rules, search rules, search rules, put.put_word.ensures ∙ bytes-turn _ _ _ _ test.loop-i-test.true test.loop-i.invariant.3)
+loop-i-preserved c = c.put_word.ensures ∙ bytes-turn _ _ _ _ c.loop-i-test.true c.loop-i.invariant
 
 pub returns : goal.returns
 returns c =
-    let at-loop = c.before in
-    let words = at-loop.args.words.now in
-    let whole : take at-loop.loop-i.i words ≡ words = take_all _ _ c.loop-i-test.false in
-    rw whole at at-loop.loop-i.invariant.3
+    let words = c.args.words.now in
+    let whole : take c.loop-i.i words ≡ words = take_all _ _ c.loop-i-test.false in
+    rw whole at c.loop-i.invariant
