@@ -1,22 +1,21 @@
 -- The loops over the lines and the rows: their turns, and the places at which they end.
 use mathlib.Core.Path.{◌≡◌, refl, sym, ap, ◌∙◌}
-use mathlib.Core.Bool.{Bool, true, false, cond, not, ◌&&◌}
+use mathlib.Core.Bool.{Bool, true, false, cond, not}
 use Prim.Native.Nat.{ℕ, zero, suc, ◌+◌, ◌≤◌, ◌<◌}
 use native.Mathlib.Numerals.{add-one}
 use native.Mathlib.Omega.{arith}
 use mathlib.Core.List.{List, [], ◌∷◌, ◌++◌, map, map-append}
-use borrow.Author.Tests.{le-leb, lt-leb, not-false}
-use Rattle.std.specs.Prelude.{Option, Some, None}
-use lib.Dec.{leb, ltb, eqb}
-use lib.ListN.{length, take, drop, set, length-drop, drop_of_length-le}
-use lib.Seq.{take-suc-set, take-take, drop-drop, length-take-le}
+use borrow.Author.Tests.{le-leb, lt-leb}
+use lib.Dec.{leb, ltb}
+use lib.ListN.{length, take, drop, set, length-drop}
+use lib.Seq.{take-suc-set}
 use Rattle.record.specs.Record.{most_events}
 use Rattle.text_lines.specs.Lines.{line_feed, before, after, lines_in}
-use Rattle.text_lines.specs.Rows.{said_in, without_lead, trimmed, says_any, Row, rows_from}
-use Rattle.text_lines.specs.Numbers.{Number, found_by, number_in}
-use Rattle.text_reader.specs.Reading.{Event, Fault, head_part, value_part, is_event, has_whole_head, head_in, value_in, event_in, fault, no_fault, why_not_event, why_short_head, not_event, too_many, short_head, events_fault}
+use Rattle.text_lines.specs.Rows.{said_in, without_lead, says_any, Row, rows_from}
+use Rattle.text_lines.specs.Numbers.{number_in}
+use Rattle.text_reader.specs.Reading.{Fault, head_part, value_part, is_event, has_whole_head, head_in, value_in, event_in, fault, no_fault, why_not_event, why_short_head, not_event, too_many, short_head, events_fault}
 use Rattle.text_reader.specs.Answers.{good, bad, read_of}
-use Rattle.text_lines.proofs.Marks.{up_to, lines-first}
+use Rattle.text_lines.proofs.Marks.{lines-first}
 use Rattle.text_lines.proofs.Digits.{and-true, found_ok, found-value}
 
 -- What is found in a row is an event just where it is one.

@@ -1,8 +1,9 @@
 -- What making a record of a text answers, and what it leaves in what it was lent.
 use Rattle.std.specs.Prelude.{ℕ, suc, Bool, cond, Result, Ok, Err, List, [], ◌∷◌, get_or, leb, eqb}
 use Rattle.record.specs.Answers.{Answer, done_with, refused_at, write_answer, written_bytes}
-use Rattle.text_reader.specs.declared.RecordAnswer.{RecordAnswer}
-use Rattle.text_reader.specs.declared.RecordAnswer.TheVariants as to_record
+use Rattle.questions.specs.Numbers.{number_of}
+use Rattle.text_reader.specs.declared.NotRecord.{NotRecord}
+use Rattle.text_reader.specs.declared.NotRecord.TheVariants as not_record
 use Rattle.text_reader.specs.declared.Why.{Why}
 use Rattle.text_reader.specs.declared.Why.TheVariants as why
 use Rattle.text_reader.specs.declared.Event as of_row
@@ -43,10 +44,10 @@ pub data LinesAnswer : Type 0 where
   written : Answer → ℕ → LinesAnswer
 
 -- The numbers of each answer: the length; the fault; or the refusal, its place and its line.
-abbrev pub record_numbers : RecordAnswer → LinesAnswer
-record_numbers (to_record.Done count) = written (done_with (count ∷ [])) 0
-record_numbers (to_record.BadText reason number) = faulty (fault reason number)
-record_numbers (to_record.Refused number at row) = written (refused_at number at) row
+abbrev pub record_numbers : Result ℕ NotRecord → LinesAnswer
+record_numbers (Ok count) = written (done_with (count ∷ [])) 0
+record_numbers (Err (not_record.BadText found)) = faulty (fault (why_number found.why) found.line)
+record_numbers (Err (not_record.Refused r row)) = written (refused_at (number_of r.refusal) r.place) row
 
 -- The text has no fault.
 abbrev pub is_well : List ℕ → Bool
@@ -75,7 +76,6 @@ to_record_bytes text bytes =
     cond (is_well text) (written_bytes (sources_of_text text) (heads_of_text text) (values_of_text text) bytes) bytes
 
 -- The length of the record that was made, 0 where none was.
-abbrev pub record_length : RecordAnswer → ℕ
-record_length (to_record.Done count) = count
-record_length (to_record.BadText reason number) = 0
-record_length (to_record.Refused number at row) = 0
+abbrev pub record_length : Result ℕ NotRecord → ℕ
+record_length (Ok count) = count
+record_length (Err none) = 0

@@ -2,13 +2,15 @@
 #![tactic(auto)]
 
 ghost use Rattle.std.specs.Prelude.{◌≡◌, cond, map, [], ◌∷◌, ◌+◌, ◌≤◌, ◌<◌, IfOk, MatchResult, length, get_or, take, drop, ltb};
+ghost use Rattle.questions.specs.Numbers.{number_of};
 ghost use Rattle.record.specs.Record.{most_events, record_size};
 ghost use Rattle.text_lines.specs.Lines.{before, after, lines_in};
 ghost use Rattle.text_lines.specs.Rows.{rows_from, rows_of};
 ghost use Rattle.text_reader.specs.Reading.{head_in, value_in, event_in, text_size, events_fault, text_fault, sources_of_text, heads_of_text, values_of_text, numbers_of};
 ghost use Rattle.text_reader.specs.Answers.{why_number, event_by, read_of, fault_by, record_numbers, to_record_answer, to_record_bytes, record_length};
+ghost use Rattle.text_reader.specs.declared.NotRecord.TheVariants.{BadText};
 
-use record::{MOST_EVENTS, RECORD_SIZE, WriteAnswer};
+use record::{MOST_EVENTS, RECORD_SIZE, Refused};
 use text_lines::{decimal_in, find, hexadecimal_in, said_in, says_any, size_in};
 
 // The most bytes of a text.
@@ -39,22 +41,19 @@ pub struct Fault {
     pub line: usize,
 }
 
-// What making a record of a text answers: the record's length; why the text is refused, and its line; or the refusal of the record's questions, its place, and the line that
-// it is about.
+// Why no record is made of a text: what is wrong with the text; or the refusal of the record's questions, its place, and the line that it is about.
 #[derive(Clone, Copy, Debug, PartialEq, Eq)]
-pub enum RecordAnswer {
-    Done {
-        length: usize,
-    },
-    BadText {
-        why: u8,
-        line: usize,
-    },
-    Refused {
-        refusal: u8,
-        place: usize,
-        line: usize,
-    },
+pub enum NotRecord {
+    BadText(Fault),
+    Refused { refused: Refused, line: usize },
+}
+
+impl From<Fault> for NotRecord {
+    ghost from_gives = { λ fault not_record. not_record ≡ BadText fault };
+
+    fn from(fault: Fault) -> NotRecord {
+        NotRecord::BadText(fault)
+    }
 }
 
 // The event of a row.
@@ -110,7 +109,7 @@ fn next_row(text: &[u8], line: usize) -> Result<Row<'_>, usize>
     requires { line + length text.now ≤ text_size + 1 }
     ensures { MatchResult result
         (λ row. (rows_from line (lines_in text.now) ≡ record { number = row.number; said = row.said.now } ∷ rows_from (row.number + 1) (lines_in row.rest.now))
-            × (row.number + 1 + length row.rest.now ≤ line + length text.now) × (length row.rest.now < length text.now))
+        × (row.number + 1 + length row.rest.now ≤ line + length text.now) × (length row.rest.now < length text.now))
         (λ number. (rows_from line (lines_in text.now) ≡ []) × (number ≡ line + length (lines_in text.now))) }
 {
     let mut rest = text;
@@ -209,18 +208,19 @@ fn read_text(
 }
 
 // The line that a refusal of the record's questions is about: that of N, or for questions 6, 27 and 7 that of the event.
-fn line_of(refusal: u8, place: usize, first: usize, numbers: &[usize; MOST_EVENTS]) -> usize
-    requires { 6 ≤ refusal → place < most_events }
-    ensures { result ≡ cond (ltb refusal 6) first (get_or numbers.now place 0) }
+fn line_of(refused: Refused, first: usize, numbers: &[usize; MOST_EVENTS]) -> usize
+    requires { 6 ≤ number_of refused.refusal → refused.place < most_events }
+    ensures { result ≡ cond (ltb (number_of refused.refusal) 6) first (get_or numbers.now refused.place 0) }
 {
-    if refusal < 6 {
-        return first;
+    if u8::from(refused.refusal) < 6 {
+        first
+    } else {
+        numbers[refused.place]
     }
-    numbers[place]
 }
 
-// Makes a record of a text: accepted, the record fills the first bytes; refused, all of them stay as they were.
-pub fn to_record(text: &[u8], bytes: &mut [u8; RECORD_SIZE]) -> RecordAnswer
+// Makes a record of a text: accepted, the record fills the first bytes, and their number is answered; refused, all of them stay as they were.
+pub fn to_record(text: &[u8], bytes: &mut [u8; RECORD_SIZE]) -> Result<usize, NotRecord>
     ensures result_value { record_numbers result ≡ to_record_answer text.now record_size }
     ensures bytes_after { bytes.new ≡ to_record_bytes text.now bytes.old }
     ensures result_in_bounds { record_length result ≤ length bytes.new }
@@ -228,24 +228,13 @@ pub fn to_record(text: &[u8], bytes: &mut [u8; RECORD_SIZE]) -> RecordAnswer
     let mut heads: [u32; MOST_EVENTS] = [0; MOST_EVENTS];
     let mut values: [u32; MOST_EVENTS] = [0; MOST_EVENTS];
     let mut numbers: [usize; MOST_EVENTS] = [0; MOST_EVENTS];
-    let listing = match read_text(text, &mut heads, &mut values, &mut numbers) {
-        Ok(listing) => listing,
-        Err(fault) => {
-            return RecordAnswer::BadText {
-                why: fault.why.into(),
-                line: fault.line,
-            };
-        }
-    };
+    let listing = read_text(text, &mut heads, &mut values, &mut numbers)?;
     let n = listing.events;
-    let first = listing.first;
-    let written = record_writer::write(listing.sources, &heads[..n], &values[..n], bytes);
-    match written {
-        WriteAnswer::Done { length } => RecordAnswer::Done { length },
-        WriteAnswer::Refused { refusal, place } => RecordAnswer::Refused {
-            refusal,
-            place,
-            line: line_of(refusal, place, first, &numbers),
-        },
+    match record_writer::write(listing.sources, &heads[..n], &values[..n], bytes) {
+        Ok(length) => Ok(length),
+        Err(refused) => Err(NotRecord::Refused {
+            refused,
+            line: line_of(refused, listing.first, &numbers),
+        }),
     }
 }

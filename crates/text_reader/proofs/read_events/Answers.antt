@@ -1,9 +1,9 @@
-use mathlib.Core.Path.{◌≡◌, refl, sym, ◌∙◌, ap}
+use mathlib.Core.Path.{◌≡◌, refl, ◌∙◌, ap}
 use native.Mathlib.Omega.{arith}
 use mathlib.Core.List.{map}
-use lib.ListN.{length, take, drop}
+use lib.ListN.{take}
 use lib.Seq.{take-length}
-use Rattle.std.proofs.Common.{rules, Ok, Err, ◌<◌, length-set}
+use Rattle.std.proofs.Common.{Ok, Err, ◌<◌, length-set}
 use Rattle.record.specs.Record.{most_events}
 use Rattle.std.proofs.lemmas.Grind.{common_steps}
 use Rattle.text_reader.specs.Answers.{bad, event_by, why_number}

@@ -1,12 +1,12 @@
-use mathlib.Core.Path.{◌≡◌, refl, sym, ap, ◌∙◌}
+use mathlib.Core.Path.{◌≡◌, ◌∙◌}
 use mathlib.Core.Bool.{true, false}
 use native.Mathlib.Omega.{arith}
-use Rattle.std.proofs.Common.{◌+◌, [], length, Some, None, Ok, Err}
+use Rattle.std.proofs.Common.{◌+◌, [], length, Ok}
 use Rattle.std.proofs.lemmas.Grind.{common_steps}
 use Rattle.text_lines.specs.Lines.{lines_in}
 use Rattle.text_lines.specs.Numbers.{found_by}
 use Rattle.text_lines.specs.Rows.{Row, rows_of}
-use Rattle.text_reader.specs.Answers.{fault_by, why_number}
+use Rattle.text_reader.specs.Answers.{fault_by}
 use Rattle.text_reader.specs.Reading.{not_sources}
 use Rattle.text_reader.proofs.Made.{long-text, no_rows, sources-bad, sources-good}
 use Rattle.text_reader.proofs.read_text.Goals as goal
