@@ -1,6 +1,8 @@
 -- Document 01, "Events and registers": the head and the value of an event; questions 6 and 7.
-use Rattle.std.specs.Prelude.{ℕ, ◌+◌, ◌*◌, ◌/◌, ◌%◌, ◌≡◌, Bool, true, false, cond, ◌&&◌, ◌||◌, List, [], ◌∷◌, length, get_or, ltb, eqb}
+use Rattle.std.specs.Prelude.{ℕ, ◌+◌, ◌*◌, ◌/◌, ◌%◌, ◌≡◌, Bool, true, false, cond, ◌&&◌, ◌||◌, List, [], ◌∷◌, length, get_or, ltb, eqb, Result, MatchResult}
 use Rattle.event.specs.declared.Uses.{Uses}
+use Rattle.event.specs.declared.kinds.Kind.{Kind}
+use Rattle.event.specs.declared.kinds.NoKind.{NoKind}
 use Rattle.event.specs.Kinds as kind
 
 -- Kind = head / 65,536.
@@ -47,6 +49,10 @@ no_kind = length kinds
 -- 6. Is the kind 0..13? It has a row.
 abbrev pub is_kind : ℕ → Bool
 is_kind k = ltb k no_kind
+
+-- A number names the kind that has it; one that no kind has is handed back.
+abbrev pub Names : ℕ → Result Kind NoKind → Type 0
+Names number r = MatchResult r (λ k. kind.number_of_kind k ≡ number) (λ e. (e.0 ≡ number) × (is_kind number ≡ false))
 
 -- The row of a kind.
 abbrev pub row_of : ℕ → Uses

@@ -1,29 +1,50 @@
-// The kinds by their names.
+ghost use Rattle.event.specs.Event.{Names};
 
-pub const SAMPLE: u32 = 0;
+// The kinds by their names, in the order of their numbers.
+#[derive(Clone, Copy, Debug, PartialEq, Eq)]
+pub enum Kind {
+    Sample,
+    Load,
+    Store,
+    CsrRead,
+    CsrWrite,
+    Take,
+    Open,
+    Chain,
+    Return,
+    SetMask,
+    Clock,
+    Error,
+    Look,
+    Commit,
+}
 
-pub const LOAD: u32 = 1;
+// A number that is of no kind.
+#[derive(Clone, Copy, Debug, PartialEq, Eq)]
+pub struct NoKind(pub u32);
 
-pub const STORE: u32 = 2;
+impl TryFrom<u32> for Kind {
+    type Error = NoKind;
 
-pub const CSR_READ: u32 = 3;
+    ghost try_from_gives = { Names };
 
-pub const CSR_WRITE: u32 = 4;
-
-pub const TAKE: u32 = 5;
-
-pub const OPEN: u32 = 6;
-
-pub const CHAIN: u32 = 7;
-
-pub const RETURN: u32 = 8;
-
-pub const SET_MASK: u32 = 9;
-
-pub const CLOCK: u32 = 10;
-
-pub const ERROR: u32 = 11;
-
-pub const LOOK: u32 = 12;
-
-pub const COMMIT: u32 = 13;
+    fn try_from(number: u32) -> Result<Kind, NoKind> {
+        match number {
+            0 => Ok(Kind::Sample),
+            1 => Ok(Kind::Load),
+            2 => Ok(Kind::Store),
+            3 => Ok(Kind::CsrRead),
+            4 => Ok(Kind::CsrWrite),
+            5 => Ok(Kind::Take),
+            6 => Ok(Kind::Open),
+            7 => Ok(Kind::Chain),
+            8 => Ok(Kind::Return),
+            9 => Ok(Kind::SetMask),
+            10 => Ok(Kind::Clock),
+            11 => Ok(Kind::Error),
+            12 => Ok(Kind::Look),
+            13 => Ok(Kind::Commit),
+            _ => Err(NoKind(number)),
+        }
+    }
+}

@@ -7,9 +7,10 @@ ghost use Rattle.handlers.specs.Service.{lifted, sample_event, load_event, store
 use crate::{Machine, Outcome};
 use counters::csrs::{csr_at, is_csr};
 use counters::{Counted, Counters};
-use event::kinds;
+use event::kinds::Kind;
 use handlers_questions::{may_store, may_write};
 use pic::Controller;
+use questions::Refusal;
 
 impl Machine {
     // The machine with another controller.
@@ -126,27 +127,28 @@ impl Machine {
     pub(crate) fn sound_step(self, head: u32, value: u32) -> Outcome
         ensures { result ≡ sound_step_of self head value }
     {
-        let q = event::shape(head, value);
-        if q != 0 {
-            return self.refuse(q);
+        if let Err(refusal) = event::shape(head, value) {
+            return self.refuse(u8::from(refusal));
         }
+        let Ok(kind) = Kind::try_from(event::kind(head)) else {
+            return self.refuse(u8::from(Refusal::NoSuchKind));
+        };
         let address = event::address(head);
-        match event::kind(head) {
-            kinds::SAMPLE => self.sample_event(address, value),
-            kinds::LOAD => self.load_event(address),
-            kinds::STORE => self.store_event(address, value),
-            kinds::CSR_READ => self.csr_read_event(address),
-            kinds::CSR_WRITE => self.csr_write_event(address, value),
-            kinds::TAKE => self.take_event(),
-            kinds::OPEN => self.open_event(),
-            kinds::CHAIN => self.chain_event(),
-            kinds::RETURN => self.return_event(),
-            kinds::SET_MASK => self.set_mask_event(value),
-            kinds::CLOCK => self.clock_event(),
-            kinds::ERROR => self.error_event(address),
-            kinds::LOOK => self.look_event(),
-            kinds::COMMIT => self.commit_event(address),
-            _ => self.refuse(6),
+        match kind {
+            Kind::Sample => self.sample_event(address, value),
+            Kind::Load => self.load_event(address),
+            Kind::Store => self.store_event(address, value),
+            Kind::CsrRead => self.csr_read_event(address),
+            Kind::CsrWrite => self.csr_write_event(address, value),
+            Kind::Take => self.take_event(),
+            Kind::Open => self.open_event(),
+            Kind::Chain => self.chain_event(),
+            Kind::Return => self.return_event(),
+            Kind::SetMask => self.set_mask_event(value),
+            Kind::Clock => self.clock_event(),
+            Kind::Error => self.error_event(address),
+            Kind::Look => self.look_event(),
+            Kind::Commit => self.commit_event(address),
         }
     }
 }

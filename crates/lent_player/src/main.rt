@@ -7,7 +7,7 @@ ghost use Rattle.record.specs.Record.{most_events};
 ghost use Rattle.playback.specs.Print.{played_lines, print_of};
 
 use playback::LINES_SIZE;
-use record::{MOST_EVENTS, ReadAnswer};
+use record::MOST_EVENTS;
 
 // One byte more than the longest record, so that longer input is refused by the questions, as all of it would be.
 const INPUT_SIZE: usize = record::RECORD_SIZE + 1;
@@ -32,15 +32,14 @@ fn print(record: &[u8], out: &mut [u8; LINES_SIZE]) -> usize
 {
     let mut heads: [u32; MOST_EVENTS] = [0; MOST_EVENTS];
     let mut values: [u32; MOST_EVENTS] = [0; MOST_EVENTS];
-    let got = record::read(record, &mut heads, &mut values);
-    match got {
-        ReadAnswer::Done { events, sources } => print_played(
-            sources,
-            &heads[..events],
-            &values[..events],
+    match record::read(record, &mut heads, &mut values) {
+        Ok(sizes) => print_played(
+            sizes.sources,
+            &heads[..sizes.events],
+            &values[..sizes.events],
             out,
         ),
-        ReadAnswer::Refused { refusal, place } => playback::print_refused(refusal, place, out),
+        Err(refused) => playback::print_refused(u8::from(refused.refusal), refused.place, out),
     }
 }
 

@@ -8,12 +8,14 @@ use lib.ListN.{length, get_or, take, drop, length-append}
 use lib.Seq.{length-take-le}
 use Rattle.buffers.specs.Filled.{filled, HasFirst}
 use borrow.Author.Tests.{eq-eqb, ne_eqb, eqb-true}
+use Rattle.std.specs.Prelude.{Result, Ok, Err}
+use Rattle.questions.specs.Numbers.{number_of}
 use Rattle.event.specs.Event.{shape_of}
 use Rattle.event.proofs.Laws.{kind-known}
 use Rattle.record.specs.declared.Limits.{Limits}
 use Rattle.record.specs.Verdict.{Verdict}
-use Rattle.record.specs.declared.ReadAnswer.{ReadAnswer}
-use Rattle.record.specs.declared.ReadAnswer.TheVariants as reading
+use Rattle.record.specs.declared.Sizes.{Sizes}
+use Rattle.record.specs.declared.Refused.{Refused}
 use Rattle.source_count.specs.Count.{most_sources}
 use Rattle.record.specs.Record.{most_events, length_of, count_of, sources_of, heads_of, values_of}
 use Rattle.record.specs.Questions.{read_verdict, verdict_within}
@@ -56,10 +58,10 @@ pub record WasRefused (limits : Limits) (bytes : List ℕ) (a b number at : ℕ)
   pub place : at ≡ (read_verdict limits bytes a b).place
 
 module _ (limits : Limits) (bytes heads₀ values₀ : List ℕ) (a b : ℕ) (alike : read_verdict limits bytes (length heads₀) (length values₀) ≡ read_verdict limits bytes a b) where
-  pub was_read : {r : ReadAnswer} {heads values : List ℕ} {n s : ℕ} → length heads ≡ length heads₀ → length values ≡ length values₀
+  pub was_read : {r : Result Sizes Refused} {heads values : List ℕ} {x : Sizes} → length heads ≡ length heads₀ → length values ≡ length values₀
       → read_numbers r ≡ read_answer limits bytes (length heads₀) (length values₀) → heads ≡ read_heads limits bytes heads₀ values₀ → values ≡ read_values limits bytes heads₀ values₀
-      → r ≡ reading.Done n s → WasRead limits bytes a b heads values n s
-  was_read {r} {heads} {values} {n} {s} kh kv er eh ev d =
+      → r ≡ Ok x → WasRead limits bytes a b heads values x.events x.sources
+  was_read {r} {heads} {values} {x} kh kv er eh ev d =
       let p = read-parts limits bytes heads₀ values₀ er eh ev d in
       let z : (read_verdict limits bytes a b).refusal ≡ 0 = ap (λ (v : Verdict). v.refusal) (sym alike) ∙ p.yes in
       let q = readable limits bytes a b z in
@@ -81,9 +83,9 @@ module _ (limits : Limits) (bytes heads₀ values₀ : List ℕ) (a b : ℕ) (al
         kinds = λ j l. kind-known (get_or (heads_of bytes) j 0) (get_or (values_of bytes) j 0) (walk-clear shape_of (heads_of bytes) (values_of bytes) (sym same) q.events j l);
       }
 
-  pub was-refused : {r : ReadAnswer} {number at : ℕ} → read_numbers r ≡ read_answer limits bytes (length heads₀) (length values₀) → r ≡ reading.Refused number at
-      → WasRefused limits bytes a b number at
-  was-refused {r} {number} {at} er d =
+  pub was-refused : {r : Result Sizes Refused} {x : Refused} → read_numbers r ≡ read_answer limits bytes (length heads₀) (length values₀) → r ≡ Err x
+      → WasRefused limits bytes a b (number_of x.refusal) x.place
+  was-refused er d =
       let f = read-not limits bytes (length heads₀) (length values₀) er d in
       record {
         no = ne_eqb (read_verdict limits bytes a b).refusal 0 (λ z. f.0 (ap (λ (v : Verdict). v.refusal) alike ∙ z));

@@ -7,7 +7,7 @@ ghost use Rattle.playback.specs.Size.{print_room};
 ghost use Rattle.record.specs.Record.{board, most_events};
 
 use crate::list::{FIRST_LINE_SIZE, LAST_LINE_SIZE, print_refused, put_lines};
-use record::{BOARD, COMPACT, COMPACT_EVENTS, Limits, MOST_EVENTS, ReadAnswer};
+use record::{BOARD, COMPACT, COMPACT_EVENTS, Limits, MOST_EVENTS};
 
 // The most bytes that the line of an event of a record has: the index has at most 4 digits, the kind 2, the answer 10 and the refusal 3.
 const EVENT_LINE_SIZE: usize = 23;
@@ -76,17 +76,16 @@ fn print_within(
     ensures value { result ≡ printed_length limits «record».now (length out.old) }
     ensures out_after { out.new ≡ printed_into limits «record».now out.old }
 {
-    let got = record::read_within(limits, record, heads, values);
-    match got {
-        ReadAnswer::Done { events, sources } => print_played(
+    match record::read_within(limits, record, heads, values) {
+        Ok(sizes) => print_played(
             out,
-            sources,
-            &heads[..events],
-            &values[..events],
+            sizes.sources,
+            &heads[..sizes.events],
+            &values[..sizes.events],
             answers,
             refusals,
         ),
-        ReadAnswer::Refused { refusal, place } => print_bad(refusal, place, out),
+        Err(refused) => print_bad(u8::from(refused.refusal), refused.place, out),
     }
 }
 

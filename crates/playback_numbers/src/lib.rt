@@ -5,7 +5,7 @@ ghost use Rattle.std.specs.Prelude.{◌≡◌, length};
 ghost use Rattle.playback_numbers.specs.Numbers.{accepted_with, refused_with, numbers_of, answers_left, refusals_left, ServesFor};
 
 use handlers::Machine;
-use record::{MOST_EVENTS, ReadAnswer};
+use record::MOST_EVENTS;
 
 // What playing a record answers: the record's refusal and its place, 0 and 0 if it was accepted; N and n; and of the machine after all events, how many handlers
 // are open, current's rank and the margin. Refused, all but the first two are 0.
@@ -76,20 +76,19 @@ fn play_into(
     ensures answers_after { answers.new ≡ answers_left «record».now answers.old refusals.old }
     ensures refusals_after { refusals.new ≡ refusals_left «record».now answers.old refusals.old }
 {
-    let got = record::read(record, heads, values);
-    match got {
-        ReadAnswer::Done { events, sources } => {
+    match record::read(record, heads, values) {
+        Ok(sizes) => {
             let played = claims::play(
-                sources,
-                &heads[..events],
-                &values[..events],
+                sizes.sources,
+                &heads[..sizes.events],
+                &values[..sizes.events],
                 answers,
                 refusals,
             );
             let m = played.machine;
-            accepted(sources as u8, events as u16, m)
+            accepted(sizes.sources as u8, sizes.events as u16, m)
         }
-        ReadAnswer::Refused { refusal, place } => refused(refusal, place as u16),
+        Err(no) => refused(u8::from(no.refusal), no.place as u16),
     }
 }
 

@@ -6,7 +6,7 @@ ghost use Rattle.record.specs.Record.{board};
 ghost use Rattle.record.specs.Answers.{read_numbers, read_heads, read_values, write_numbers, written_bytes};
 ghost use Rattle.record_round_trip.specs.RoundTrip.{write_read_answer, write_read_heads, write_read_values, ReadsBack, read_write_answer, read_write_bytes, WritesBack};
 
-use record::{ReadAnswer, WriteAnswer};
+use record::{Refused, Sizes};
 
 // Writes a record, and reads what was written. Where the writing is refused, its refusal is the answer, and nothing is read.
 pub fn write_then_read(
@@ -16,7 +16,7 @@ pub fn write_then_read(
     bytes: &mut [u8],
     heads_back: &mut [u32],
     values_back: &mut [u32],
-) -> ReadAnswer
+) -> Result<Sizes, Refused>
     ensures result_value { read_numbers result ≡ write_read_answer board sources heads.now values.now
         (length bytes.old) (length heads_back.old) (length values_back.old) }
     ensures bytes_after { bytes.new ≡ written_bytes sources heads.now values.now bytes.old }
@@ -27,11 +27,8 @@ pub fn write_then_read(
     ensures reads_back { ReadsBack sources heads.now values.now (length bytes.old) heads_back.old values_back.old
         (read_numbers result) heads_back.new values_back.new }
 {
-    let written = record_writer::write(sources, heads, values, bytes);
-    match written {
-        WriteAnswer::Done { length } => record::read(&bytes[..length], heads_back, values_back),
-        WriteAnswer::Refused { refusal, place } => ReadAnswer::Refused { refusal, place },
-    }
+    let length = record_writer::write(sources, heads, values, bytes)?;
+    record::read(&bytes[..length], heads_back, values_back)
 }
 
 // Reads a record, and writes what was read. Where the reading is refused, its refusal is the answer, and nothing is written.
@@ -40,7 +37,7 @@ pub fn read_then_write(
     heads: &mut [u32],
     values: &mut [u32],
     back: &mut [u8],
-) -> WriteAnswer
+) -> Result<usize, Refused>
     ensures result_value { write_numbers result ≡ read_write_answer board bytes.now (length heads.old) (length values.old)
         (length back.old) }
     ensures heads_after { heads.new ≡ read_heads board bytes.now heads.old values.old }
@@ -50,14 +47,7 @@ pub fn read_then_write(
     ensures writes_back { WritesBack board bytes.now (length heads.old) (length values.old) back.old
         (write_numbers result) back.new }
 {
-    let got = record::read(bytes, heads, values);
-    match got {
-        ReadAnswer::Done { events, sources } => record_writer::write(
-            sources,
-            &heads[..events],
-            &values[..events],
-            back,
-        ),
-        ReadAnswer::Refused { refusal, place } => WriteAnswer::Refused { refusal, place },
-    }
+    let sizes = record::read(bytes, heads, values)?;
+    let n = sizes.events;
+    record_writer::write(sizes.sources, &heads[..n], &values[..n], back)
 }

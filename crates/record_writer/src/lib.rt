@@ -10,6 +10,7 @@ ghost use Rattle.record.specs.Record.{record_of, length_of};
 ghost use Rattle.record.specs.Questions.{verdict_in, write_shape_of, walk, write_verdict};
 ghost use Rattle.record.specs.Answers.{write_numbers, write_answer, written_bytes};
 
+use event::kinds::Kind;
 use questions::Refusal;
 use record::{MOST_EVENTS, Refused};
 
@@ -45,14 +46,17 @@ fn put_record(sources: u32, heads: &[u32], values: &[u32], bytes: &mut [u8])
     put_words(bytes, 2 + n, values);
 }
 
-// Questions 6, 27 and 7 of an event that is written. One of kind 7 is of a kind, so 27 is asked before 6 here.
+// Questions 6, 27 and 7 of an event that is written, first no decides.
 fn write_shape(head: u32, value: u32) -> Result<(), Refusal>
     ensures { number_in result ≡ write_shape_of head value }
 {
-    if event::kind(head) == event::kinds::CHAIN {
-        return Err(Refusal::RetiredKind);
+    let Ok(kind) = Kind::try_from(event::kind(head)) else {
+        return Err(Refusal::NoSuchKind);
+    };
+    match kind {
+        Kind::Chain => Err(Refusal::RetiredKind),
+        _ => event::shape(head, value),
     }
-    event::shape(head, value)
 }
 
 // Questions 6, 27 and 7 of the events in two arrays.

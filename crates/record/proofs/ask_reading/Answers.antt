@@ -1,4 +1,4 @@
-use mathlib.Core.Path.{◌∙◌, ap, refl}
+use mathlib.Core.Path.{◌∙◌, refl}
 use Rattle.std.proofs.lemmas.Result.{err_from_is_err_and}
 use Rattle.questions.specs.Numbers.{number_of, number_in}
 use Rattle.record.proofs.Questions.{refuses, read-no-1, read-no-sizes, read-no-4, read-no-5, read_walk}

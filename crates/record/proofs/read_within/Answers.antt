@@ -1,11 +1,9 @@
 use native.Mathlib.Omega.{arith}
-use mathlib.Core.Path.{refl, sym, ap}
+use mathlib.Core.Path.{refl}
 use Prim.Native.Nat.{◌+◌, ◌*◌, ◌≤◌}
 use lib.ListN.{length}
 use lib.Seq.{length-take-le}
 use Rattle.std.proofs.lemmas.Result.{err_from_is_err_and}
-use Rattle.questions.specs.Numbers.{number_of}
-use Rattle.record.specs.Verdict.{Verdict}
 use Rattle.record.proofs.Words.{words-filled}
 use Rattle.record.proofs.Answers.{read-refused, read-accepted}
 use Rattle.record.proofs.Questions.{refuses, accepted}

@@ -1,6 +1,6 @@
 use borrow.Author.Rules.{rules}
 use mathlib.Core.Path.{refl, ◌∙◌, sym}
-use Rattle.questions.specs.Numbers.{number_of, number_in}
+use Rattle.questions.specs.Numbers.{number_in}
 use Rattle.event.specs.Event.{shape_of}
 use Rattle.record.proofs.Questions.{refuses}
 use Rattle.record.proofs.Walk.{walk_none, walk-past, walk-stop, equally-many, in-heads, past-heads, check-there}

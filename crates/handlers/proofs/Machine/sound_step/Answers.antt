@@ -1,69 +1,91 @@
-use borrow.Author.Tests.{eq-eqb, ne_eqb}
+use mathlib.Core.Path.{◌≡◌, refl, sym, ap, ◌∙◌}
+use Prim.Native.Nat.{ℕ}
+use native.Mathlib.Omega.{arith}
+use borrow.Author.Tests.{ne_eqb, eqb-false, ltb-false}
+use lib.ListN.{length}
+use Rattle.questions.specs.Numbers.{number_in}
+use Rattle.event.specs.declared.kinds.Kind.{Kind}
+use Rattle.event.specs.Kinds.{number_of_kind}
+use Rattle.event.specs.Event.{kinds, kind_of, address_of, shape_of}
+use Rattle.event.proofs.Laws.{kind-known}
+use Rattle.questions.specs.Numbers.{number_of}
+use Rattle.questions.proofs.Numbers.{never_0}
+use Rattle.handlers.specs.declared.Machine.{Machine}
 use Rattle.handlers.specs.Service.{event_of, sound_step_of}
 use Rattle.handlers.proofs.Machine.sound_step.Goals as goal
 
-pub returns-then-q-ne0 : goal.returns-then-q-ne0
+-- Where 6 and 7 are answered yes, the event of the kind that the head's number names.
+by-kind : (m : Machine) (head value : ℕ) {k a : ℕ} {named n : Kind} → 0 ≡ shape_of head value → k ≡ kind_of head → a ≡ address_of head
+    → number_of_kind named ≡ k → named ≡ n → event_of m (number_of_kind n) a value ≡ sound_step_of m head value
 unfolding sound_step_of
-returns-then-q-ne0 c = rw (← c.shape-q.ensures, ne_eqb _ _ c.if-q-ne0.true) c.refuse.ensures
+by-kind m head value {k} {a} {named} {n} asked ek ea en e =
+    let number : number_of_kind n ≡ kind_of head = ap number_of_kind (sym e) ∙ en ∙ ek in
+    rw (← asked, ea, number) refl
 
-pub returns-in-0 : goal.returns-in-0
-unfolding sound_step_of event_of
-returns-in-0 c = rw (← c.shape-q.ensures, eq-eqb _ _ c.if-q-ne0.false, ← c.kind.ensures, c.in-0.is, ← c.address-address.ensures) c.sample_event.ensures
+pub returns-in-Err : goal.returns-in-Err
+unfolding sound_step_of number_in
+returns-in-Err c =
+    let no = eqb-false (number_of c.in-Err.refusal) 0 (never_0 c.in-Err.refusal) in
+    rw (← c.in-Err.ensures, ne_eqb _ _ no, ← c.from.ensures) c.refuse.ensures
 
-pub returns-in-1 : goal.returns-in-1
-unfolding sound_step_of event_of
-returns-in-1 c = rw (← c.shape-q.ensures, eq-eqb _ _ c.if-q-ne0.false, ← c.kind.ensures, c.in-1.is, ← c.address-address.ensures) c.load_event.ensures
+pub returns-in_default-try_from : goal.returns-in_default-try_from
+unfolding number_in
+returns-in_default-try_from c =
+    let known = kind-known c.args.head c.args.value (sym c.in_default.ensures) in
+    absurd (omega (arith, known, c.kind.ensures, ltb-false c.kind.result (length kinds) c.in_default-try_from.ensures.1))
 
-pub returns-in-2 : goal.returns-in-2
-unfolding sound_step_of event_of
-returns-in-2 c = rw (← c.shape-q.ensures, eq-eqb _ _ c.if-q-ne0.false, ← c.kind.ensures, c.in-2.is, ← c.address-address.ensures) c.store_event.ensures
+pub returns-in-Sample : goal.returns-in-Sample
+unfolding event_of number_in
+returns-in-Sample c = c.sample_event.ensures ∙ by-kind c.args.self c.args.head c.args.value c.in_default.ensures c.kind.ensures c.address-address.ensures c.in-Ok.ensures c.in-Sample.is
 
-pub returns-in-3 : goal.returns-in-3
-unfolding sound_step_of event_of
-returns-in-3 c = rw (← c.shape-q.ensures, eq-eqb _ _ c.if-q-ne0.false, ← c.kind.ensures, c.in-3.is, ← c.address-address.ensures) c.csr_read_event.ensures
+pub returns-in-Load : goal.returns-in-Load
+unfolding event_of number_in
+returns-in-Load c = c.load_event.ensures ∙ by-kind c.args.self c.args.head c.args.value c.in_default.ensures c.kind.ensures c.address-address.ensures c.in-Ok.ensures c.in-Load.is
 
-pub returns-in-4 : goal.returns-in-4
-unfolding sound_step_of event_of
-returns-in-4 c = rw (← c.shape-q.ensures, eq-eqb _ _ c.if-q-ne0.false, ← c.kind.ensures, c.in-4.is, ← c.address-address.ensures) c.csr_write_event.ensures
+pub returns-in-Store : goal.returns-in-Store
+unfolding event_of number_in
+returns-in-Store c = c.store_event.ensures ∙ by-kind c.args.self c.args.head c.args.value c.in_default.ensures c.kind.ensures c.address-address.ensures c.in-Ok.ensures c.in-Store.is
 
-pub returns-in-5 : goal.returns-in-5
-unfolding sound_step_of event_of
-returns-in-5 c = rw (← c.shape-q.ensures, eq-eqb _ _ c.if-q-ne0.false, ← c.kind.ensures, c.in-5.is) c.take_event.ensures
+pub returns-in-CsrRead : goal.returns-in-CsrRead
+unfolding event_of number_in
+returns-in-CsrRead c = c.csr_read_event.ensures ∙ by-kind c.args.self c.args.head c.args.value c.in_default.ensures c.kind.ensures c.address-address.ensures c.in-Ok.ensures c.in-CsrRead.is
 
-pub returns-in-6 : goal.returns-in-6
-unfolding sound_step_of event_of
-returns-in-6 c = rw (← c.shape-q.ensures, eq-eqb _ _ c.if-q-ne0.false, ← c.kind.ensures, c.in-6.is) c.open_event.ensures
+pub returns-in-CsrWrite : goal.returns-in-CsrWrite
+unfolding event_of number_in
+returns-in-CsrWrite c = c.csr_write_event.ensures ∙ by-kind c.args.self c.args.head c.args.value c.in_default.ensures c.kind.ensures c.address-address.ensures c.in-Ok.ensures c.in-CsrWrite.is
 
-pub returns-in-7 : goal.returns-in-7
-unfolding sound_step_of event_of
-returns-in-7 c = rw (← c.shape-q.ensures, eq-eqb _ _ c.if-q-ne0.false, ← c.kind.ensures, c.in-7.is) c.chain_event.ensures
+pub returns-in-Take : goal.returns-in-Take
+unfolding event_of number_in
+returns-in-Take c = c.take_event.ensures ∙ by-kind c.args.self c.args.head c.args.value c.in_default.ensures c.kind.ensures c.address-address.ensures c.in-Ok.ensures c.in-Take.is
 
-pub returns-in-8 : goal.returns-in-8
-unfolding sound_step_of event_of
-returns-in-8 c = rw (← c.shape-q.ensures, eq-eqb _ _ c.if-q-ne0.false, ← c.kind.ensures, c.in-8.is) c.return_event.ensures
+pub returns-in-Open : goal.returns-in-Open
+unfolding event_of number_in
+returns-in-Open c = c.open_event.ensures ∙ by-kind c.args.self c.args.head c.args.value c.in_default.ensures c.kind.ensures c.address-address.ensures c.in-Ok.ensures c.in-Open.is
 
-pub returns-in-9 : goal.returns-in-9
-unfolding sound_step_of event_of
-returns-in-9 c = rw (← c.shape-q.ensures, eq-eqb _ _ c.if-q-ne0.false, ← c.kind.ensures, c.in-9.is) c.set_mask_event.ensures
+pub returns-in-Chain : goal.returns-in-Chain
+unfolding event_of number_in
+returns-in-Chain c = c.chain_event.ensures ∙ by-kind c.args.self c.args.head c.args.value c.in_default.ensures c.kind.ensures c.address-address.ensures c.in-Ok.ensures c.in-Chain.is
 
-pub returns-in-10 : goal.returns-in-10
-unfolding sound_step_of event_of
-returns-in-10 c = rw (← c.shape-q.ensures, eq-eqb _ _ c.if-q-ne0.false, ← c.kind.ensures, c.in-10.is) c.clock_event.ensures
+pub returns-in-Return : goal.returns-in-Return
+unfolding event_of number_in
+returns-in-Return c = c.return_event.ensures ∙ by-kind c.args.self c.args.head c.args.value c.in_default.ensures c.kind.ensures c.address-address.ensures c.in-Ok.ensures c.in-Return.is
 
-pub returns-in-11 : goal.returns-in-11
-unfolding sound_step_of event_of
-returns-in-11 c = rw (← c.shape-q.ensures, eq-eqb _ _ c.if-q-ne0.false, ← c.kind.ensures, c.in-11.is, ← c.address-address.ensures) c.error_event.ensures
+pub returns-in-SetMask : goal.returns-in-SetMask
+unfolding event_of number_in
+returns-in-SetMask c = c.set_mask_event.ensures ∙ by-kind c.args.self c.args.head c.args.value c.in_default.ensures c.kind.ensures c.address-address.ensures c.in-Ok.ensures c.in-SetMask.is
 
-pub returns-in-12 : goal.returns-in-12
-unfolding sound_step_of event_of
-returns-in-12 c = rw (← c.shape-q.ensures, eq-eqb _ _ c.if-q-ne0.false, ← c.kind.ensures, c.in-12.is) c.look_event.ensures
+pub returns-in-Clock : goal.returns-in-Clock
+unfolding event_of number_in
+returns-in-Clock c = c.clock_event.ensures ∙ by-kind c.args.self c.args.head c.args.value c.in_default.ensures c.kind.ensures c.address-address.ensures c.in-Ok.ensures c.in-Clock.is
 
-pub returns-in-13 : goal.returns-in-13
-unfolding sound_step_of event_of
-returns-in-13 c = rw (← c.shape-q.ensures, eq-eqb _ _ c.if-q-ne0.false, ← c.kind.ensures, c.in-13.is, ← c.address-address.ensures) c.commit_event.ensures
+pub returns-in-Error : goal.returns-in-Error
+unfolding event_of number_in
+returns-in-Error c = c.error_event.ensures ∙ by-kind c.args.self c.args.head c.args.value c.in_default.ensures c.kind.ensures c.address-address.ensures c.in-Ok.ensures c.in-Error.is
 
-pub returns-in_default : goal.returns-in_default
-unfolding sound_step_of event_of
-returns-in_default c =
-    let r = c.in_default.in_default-own.rest in
-    rw (← c.shape-q.ensures, eq-eqb _ _ c.if-q-ne0.false, ← c.kind.ensures, ne_eqb _ _ r.0.0.0.0.0.0.0.0.0.0.0.0.0.1, ne_eqb _ _ r.0.0.0.0.0.0.0.0.0.0.0.0.1, ne_eqb _ _ r.0.0.0.0.0.0.0.0.0.0.0.1, ne_eqb _ _ r.0.0.0.0.0.0.0.0.0.0.1, ne_eqb _ _ r.0.0.0.0.0.0.0.0.0.1, ne_eqb _ _ r.0.0.0.0.0.0.0.0.1, ne_eqb _ _ r.0.0.0.0.0.0.0.1, ne_eqb _ _ r.0.0.0.0.0.0.1, ne_eqb _ _ r.0.0.0.0.0.1, ne_eqb _ _ r.0.0.0.0.1, ne_eqb _ _ r.0.0.0.1, ne_eqb _ _ r.0.0.1, ne_eqb _ _ r.0.1, ne_eqb _ _ r.1) c.refuse-in_default.ensures
+pub returns-in-Look : goal.returns-in-Look
+unfolding event_of number_in
+returns-in-Look c = c.look_event.ensures ∙ by-kind c.args.self c.args.head c.args.value c.in_default.ensures c.kind.ensures c.address-address.ensures c.in-Ok.ensures c.in-Look.is
+
+pub returns-in-Commit : goal.returns-in-Commit
+unfolding event_of number_in
+returns-in-Commit c = c.commit_event.ensures ∙ by-kind c.args.self c.args.head c.args.value c.in_default.ensures c.kind.ensures c.address-address.ensures c.in-Ok.ensures c.in-Commit.is
