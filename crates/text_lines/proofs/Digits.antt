@@ -1,40 +1,46 @@
 -- Digits and the numbers that they make.
 use mathlib.Core.Path.{◌≡◌, refl, sym, ◌∙◌}
-use mathlib.Core.Bool.{Bool, true, false, cond, not, ◌&&◌, true≢false}
+use mathlib.Core.Bool.{Bool, true, false, cond, ◌&&◌, true≢false}
 use Prim.Native.Nat.{ℕ, suc, ◌+◌, ◌*◌, ◌^◌, ◌≤◌, ◌<◌}
 use native.Mathlib.Nat.{pow-suc, suc-mul, mul-le-mul, pow-le-pow_right, lt_of_lt_of_le}
 use native.Mathlib.Numerals.{add-one}
 use native.Mathlib.Omega.{arith}
 use mathlib.Core.List.{List}
-use borrow.Author.Tests.{lt-ltb, le-ltb, leb-true, not-true, not-false}
-use lib.Dec.{lit<, ltb, leb}
+use borrow.Author.Tests.{lt-ltb, le-ltb}
+use lib.Dec.{lit<, ltb}
+use Rattle.std.specs.Char.{digit_value}
+use Rattle.std.proofs.lemmas.Bool.Decides.{nat_tests}
 use lib.ListN.{length, get_or, drop, drop_of_length-le}
 use lib.Seq.{drop-cons}
-use Rattle.text_lines.specs.declared.Number.{Number}
-use Rattle.text_lines.specs.Numbers.{all_digits, is_number, found, number_in}
-use Rattle.digits.specs.Digits.{within, digit_of, number_after, number_of}
+use Rattle.text_lines.specs.Numbers.{Number, all_digits, is_number, found, number_in}
+use Rattle.digits.specs.Digits.{digit_of, number_after, number_of}
 
 pub and-true : (a b : Bool) → a && b ≡ true → (a ≡ true) × (b ≡ true)
 and-true true b h = (refl, h)
 and-true false b h = absurd (true≢false (sym h))
 
-pub within_low : (low high byte : ℕ) → within low high byte ≡ true → low ≤ byte
-within_low low high byte h = leb-true low byte (and-true (leb low byte) (leb byte high) h).0
+-- The digit of a byte, as `to_digit` of the library gives it below 16.
+digit-there : (byte : ℕ) → digit_of byte ≡ cond (ltb (digit_value byte) 16) (digit_value byte) 16
+unfolding digit_of
+digit-there byte = grind (arith, nat_tests)
+
+-- So it is a digit in a base where that is below the base.
+module _ (base byte : ℕ) (few : base ≤ 16) where
+  pub digit-below : digit_value byte < base → {d : ℕ} → d ≡ digit_value byte → (d ≡ digit_of byte) × (d < base)
+  digit-below h e =
+      let l : digit_value byte < 16 = omega arith in
+      (sym (digit-there byte ∙ rw (lt-ltb _ _ l) (sym e)), omega arith)
+
+  pub digit-none : (digit_value byte < base → ⊥) → base ≤ digit_of byte
+  digit-none h = rw (digit-there byte) (by-case (ltb (digit_value byte) 16) refl)
+    where
+      by-case : (b : Bool) → ltb (digit_value byte) 16 ≡ b → base ≤ cond b (digit_value byte) 16
+      by-case true e = omega arith
+      by-case false e = few
 
 -- What is found in the digits that follow those of n.
 abbrev pub found_from : ℕ → ℕ → List ℕ → Number
 found_from base n text = cond (all_digits base text) (found true (number_after base n text)) (found false 0)
-
--- A text of no digit, or of too many.
-pub not-counted : (base most : ℕ) (text : List ℕ) → not (leb 1 (length text) && leb (length text) most) ≡ true → found false 0 ≡ number_in base most text
-not-counted base most text h = rw (not-true (leb 1 (length text) && leb (length text) most) h)
-
--- A text of as many bytes as there may be digits.
-pub counted : (base most : ℕ) (text : List ℕ) → not (leb 1 (length text) && leb (length text) most) ≡ false
-    → (length text ≤ most) × (number_in base most text ≡ found_from base 0 text)
-counted base most text h =
-    let all = not-false (leb 1 (length text) && leb (length text) most) h in
-    (leb-true _ _ (and-true (leb 1 (length text)) (leb (length text) most) all).1, rw all)
 
 -- The loop over the digits: a turn, and its two ends.
 module _ (base : ℕ) (text : List ℕ) (i n : ℕ) where

@@ -1,7 +1,7 @@
 -- The first mark in a text, what stands before it and after it, and the lines of a text.
-use mathlib.Core.Path.{◌≡◌, refl, ap}
+use mathlib.Core.Path.{◌≡◌, refl, sym, ap, ◌∙◌}
 use mathlib.Core.Bool.{Bool, true, false, cond}
-use Prim.Native.Nat.{ℕ, suc, ◌+◌, ◌-◌, ◌≤◌, ◌<◌, min}
+use Prim.Native.Nat.{ℕ, zero, suc, ◌+◌, ◌-◌, ◌≤◌, ◌<◌, min}
 use native.Mathlib.Nat.{min-eq_left, min-eq_right}
 use native.Mathlib.Numerals.{add-one}
 use native.Mathlib.Omega.{arith}
@@ -9,32 +9,18 @@ use mathlib.Core.List.{List, [], ◌∷◌}
 use borrow.Author.Tests.{eq-eqb, ne_eqb, leb-true, leb-false}
 use lib.Dec.{eqb, leb}
 use lib.ListN.{length, get_or, take, drop, length-drop, drop_of_length-le}
-use lib.Seq.{drop-cons, drop-length, take_all}
+use lib.Seq.{drop-length, take_all}
 use Rattle.text_lines.specs.Lines.{line_feed, before, after, onto, lines_in}
 
--- The search for the mark: a turn, and its two ends.
-module _ (mark : ℕ) (text : List ℕ) (i : ℕ) where
-  before_here : i < length text
-      → before mark (drop i text) ≡ cond (eqb (get_or text i 0) mark) [] (get_or text i 0 ∷ before mark (drop (i + 1) text))
-  unfolding before
-  before_here h = rw (add-one, drop-cons text i 0 h)
-
-  pub find-turn : i < length text → (get_or text i 0 ≡ mark → ⊥) → {n : ℕ} → n ≡ i + length (before mark (drop i text))
-      → n ≡ (i + 1) + length (before mark (drop (i + 1) text))
-  find-turn h other e =
-      let l : length (before mark (drop i text)) ≡ suc (length (before mark (drop (i + 1) text))) = rw (before_here h, ne_eqb _ _ other) in
-      omega arith
-
-  pub find-stop : i < length text → get_or text i 0 ≡ mark → {n : ℕ} → n ≡ i + length (before mark (drop i text)) → i ≡ n
-  find-stop h here e =
-      let l : length (before mark (drop i text)) ≡ 0 = rw (before_here h, eq-eqb _ _ here) in
-      omega arith
-
-  pub find_none : length text ≤ i → {n : ℕ} → n ≡ i + length (before mark (drop i text)) → i ≡ n
-  unfolding before
-  find_none h e =
-      let l : length (before mark (drop i text)) ≡ 0 = rw (drop_of_length-le text h) in
-      omega arith
+-- The place of the first mark: none stands before it, and one at it, where it is within the text.
+pub first-mark : (mark : ℕ) (text : List ℕ) (n : ℕ) → n ≤ length text → ((k : ℕ) → k < n → get_or text k 0 ≡ mark → ⊥)
+    → (n < length text → get_or text n 0 ≡ mark) → n ≡ length (before mark text)
+unfolding before
+first-mark mark [] n inside none here = omega arith
+first-mark mark (byte ∷ text) zero inside none here = rw (eq-eqb byte mark (here (omega arith)))
+first-mark mark (byte ∷ text) (suc n) inside none here =
+    rw (ne_eqb byte mark (none 0 (omega arith)))
+    (ap suc (first-mark mark text n (omega arith) (λ k h. none (suc k) (omega arith)) (λ h. here (omega arith))))
 
 -- What is before the first mark is the text up to it.
 take_step : (here : Bool) (byte : ℕ) (text rest : List ℕ) → take (length rest) text ≡ rest
@@ -58,22 +44,20 @@ unfolding before after
 drop-after mark [] = refl
 drop-after mark (byte ∷ text) = drop-step (eqb byte mark) byte text (before mark text) (after mark text) (drop-after mark text)
 
-drop_min : (n : ℕ) (text : List ℕ) → drop (min n (length text)) text ≡ drop n text
-drop_min n text = go (leb n (length text)) refl
-  where
-    go : (t : Bool) → leb n (length text) ≡ t → drop (min n (length text)) text ≡ drop n text
-    go true e = rw (min-eq_left {n = n} {m = length text} (leb-true _ _ e))
-    go false e =
-        let h : length text ≤ n = omega (arith, leb-false n (length text) e) in
-        rw (min-eq_right {n = length text} {m = n} h, drop-length text, drop_of_length-le text h)
-
 -- What stands up to the mark that was found, and from the place after it on.
 module _ (mark : ℕ) (text : List ℕ) {at : ℕ} (e : at ≡ length (before mark text)) where
   pub up_to : take at text ≡ before mark text
   up_to = rw e (take-before mark text)
 
-  pub from_past : {next : ℕ} → next ≡ min (at + 1) (length text) → drop next text ≡ after mark text
-  from_past en = rw (en, e, drop_min, add-one) (drop-after mark text)
+  pub from_past : drop (at + 1) text ≡ after mark text
+  from_past = rw (e, add-one) (drop-after mark text)
+
+  pub none-past : length text ≤ at → drop at text ≡ after mark text
+  none-past h = let h' : length text ≤ at + 1 = omega arith in drop_of_length-le text h ∙ sym (drop_of_length-le text h') ∙ from_past
+
+-- It is shorter.
+pub after-shorter : (mark : ℕ) (text : List ℕ) → 0 < length text → length (after mark text) < length text
+after-shorter mark text h = rw (← drop-after mark text, length-drop) (omega arith)
 
 -- A part that goes to the end.
 pub rest_of : (text : List ℕ) (from : ℕ) → take (length text - from) (drop from text) ≡ drop from text

@@ -1,93 +1,91 @@
 -- Blanks around a part, what a line says, and the rows of a text.
 use mathlib.Core.Path.{◌≡◌, refl, sym, ap, ◌∙◌}
-use mathlib.Core.Bool.{Bool, true, false, cond, not}
+use mathlib.Core.Bool.{Bool, true, false, cond, ◌&&◌}
 use Prim.Native.Nat.{ℕ, zero, suc, ◌+◌, ◌-◌, ◌≤◌, ◌<◌}
-use native.Mathlib.Numerals.{add-one}
 use native.Mathlib.Omega.{arith}
 use mathlib.Core.List.{List, [], ◌∷◌}
-use borrow.Author.Tests.{lt-ltb, le-ltb, ltb-true, ltb-false, eq-eqb, ne_eqb, not-true, not-false}
-use lib.Dec.{eqb, ltb}
-use lib.ListN.{length, get_or, take, drop, length-drop, drop_of_length-le}
+use borrow.Author.Tests.{leb-true, leb-false}
+use Rattle.std.specs.Cmp.Lexicographic.{pointwise}
+use lib.Dec.{eqb, leb}
+use Rattle.std.specs.Option.{MatchOption, unwrap_or}
+use Rattle.std.specs.Prelude.{Option, Some, None}
+use denote.Bor.{Bor}
+use lib.ListN.{length, get_or, take, drop, drop_of_length-le}
 use lib.Seq.{drop-cons, take-take, take-length, length-take-le}
 use Rattle.text_lines.specs.Lines.{before}
 use Rattle.text_lines.specs.Rows.{carriage_return, last_of, without_return, comment_sign, said_in, is_blank, without_lead, kept_of, trimmed}
-use Rattle.text_lines.proofs.Marks.{up_to, rest_of}
+use Rattle.text_lines.proofs.Marks.{up_to}
 
--- The blanks at the start: a turn of the loop over them, and its two ends.
-module _ (text : List ℕ) (i : ℕ) where
-  lead-here : i < length text → without_lead (drop i text) ≡ cond (is_blank (get_or text i 0)) (without_lead (drop (i + 1) text)) (drop i text)
-  unfolding without_lead
-  lead-here h = rw (add-one, drop-cons text i 0 h)
+-- The blanks at the start: only blanks stand before a place, and none at it, where it is within the text.
+pub first-no_blank : (text : List ℕ) (n : ℕ) → n ≤ length text → ((k : ℕ) → k < n → is_blank (get_or text k 0) ≡ true)
+    → (n < length text → is_blank (get_or text n 0) ≡ false) → drop n text ≡ without_lead text
+unfolding without_lead
+first-no_blank [] n inside blanks here = let e : n ≡ 0 = omega arith in rw e
+first-no_blank (byte ∷ text) zero inside blanks here = rw (here (omega arith))
+first-no_blank (byte ∷ text) (suc n) inside blanks here =
+    rw (blanks 0 (omega arith)) (first-no_blank text n (omega arith) (λ k h. blanks (suc k) (omega arith)) (λ h. here (omega arith)))
 
-  pub lead-turn : i < length text → {b : Bool} → b ≡ is_blank (get_or text i 0) → not b ≡ false → {x : List ℕ} → x ≡ without_lead (drop i text)
-      → x ≡ without_lead (drop (i + 1) text)
-  lead-turn h {b} e z q = q ∙ lead-here h ∙ rw (← e, not-false b z)
-
-  pub lead-stop : i < length text → {b : Bool} → b ≡ is_blank (get_or text i 0) → not b ≡ true → {x : List ℕ} → x ≡ without_lead (drop i text)
-      → drop i text ≡ x
-  lead-stop h {b} e z q = sym (q ∙ lead-here h ∙ rw (← e, not-true b z))
-
-  pub lead-end : length text ≤ i → {x : List ℕ} → x ≡ without_lead (drop i text) → drop i text ≡ x
-  unfolding without_lead
-  lead-end h q = sym (q ∙ rw (drop_of_length-le text h))
-
--- The blanks at the end, likewise.
-kept_here : (text : List ℕ) (n : ℕ) → 0 < n → kept_of text n ≡ cond (is_blank (get_or text (n - 1) 0)) (kept_of text (n - 1)) n
+-- The blanks at the end, likewise: of the first m bytes, only blanks stand from place n on, and none before it.
+pub last-no_blank : (text : List ℕ) (m n : ℕ) → n ≤ m → ((k : ℕ) → n ≤ k → k < m → is_blank (get_or text k 0) ≡ true)
+    → (0 < n → is_blank (get_or text (n - 1) 0) ≡ false) → n ≡ kept_of text m
 unfolding kept_of
-kept_here text zero h = absurd (omega arith)
-kept_here text (suc n) h = let e : suc n - 1 ≡ n = omega arith in rw e
-
-module _ (text : List ℕ) (n : ℕ) (h : 0 < n) {b : Bool} (e : b ≡ is_blank (get_or text (n - 1) 0)) {x : ℕ} (q : x ≡ kept_of text n) where
-  pub kept-turn : not b ≡ false → x ≡ kept_of text (n - 1)
-  kept-turn z = q ∙ kept_here text n h ∙ rw (← e, not-false b z)
-
-  pub kept-stop : not b ≡ true → n ≡ x
-  kept-stop z = sym (q ∙ kept_here text n h ∙ rw (← e, not-true b z))
-
-pub kept-end : (text : List ℕ) (n : ℕ) → n ≤ 0 → {x : ℕ} → x ≡ kept_of text n → n ≡ x
-unfolding kept_of
-kept-end text zero h q = sym q
-kept-end text (suc n) h q = absurd (omega arith)
+last-no_blank text zero n inside blanks here = omega arith
+last-no_blank text (suc m) n inside blanks here = by-case (leb n m) refl (λ l. last-no_blank text m n l (λ k h g. blanks k h (omega arith)) here)
+  where
+    by-case : (less : Bool) → leb n m ≡ less → (n ≤ m → n ≡ kept_of text m) → n ≡ cond (is_blank (get_or text m 0)) (kept_of text m) (suc m)
+    by-case true e fewer =
+        let l : n ≤ m = leb-true n m e in
+        rw (blanks m l (omega arith)) (fewer l)
+    by-case false e fewer =
+        let l : n ≡ suc m = omega (arith, leb-false n m e) in
+        let one : n - 1 ≡ m = omega arith in
+        rw (rw one at (here (omega arith))) l
 
 -- A part without the blanks around it.
-pub trimmed-there : (part : List ℕ) (from : ℕ) {to : ℕ} → drop from part ≡ without_lead part
-    → to ≡ kept_of (take (length part - from) (drop from part)) (length (take (length part - from) (drop from part)))
-    → take to (take (length part - from) (drop from part)) ≡ trimmed part
+pub trimmed-there : (part : List ℕ) {rest : List ℕ} {to : ℕ} → rest ≡ without_lead part → to ≡ kept_of rest (length rest) → take to rest ≡ trimmed part
 unfolding trimmed
-trimmed-there part from {to} ef et = let et' : to ≡ kept_of (without_lead part) (length (without_lead part)) = rw (rest_of, ef) at et in rw (rest_of part from, ef, et')
+trimmed-there part er et = rw (et, er)
 
--- A carriage return at the end of a line.
+and-true-right : (b : Bool) → b && true ≡ b
+and-true-right true = refl
+and-true-right false = refl
+
+-- A carriage return at the end of a line: the line's last part of one byte is one.
+pub ends-in-return : (line : List ℕ) → pointwise eqb (drop (length line - 1) line) (carriage_return ∷ []) ≡ eqb (last_of line) carriage_return
+ends-in-return [] = refl
+ends-in-return (byte ∷ line) =
+    let l : length (byte ∷ line) - 1 < length (byte ∷ line) = omega arith in
+    let over : length (byte ∷ line) ≤ suc (length (byte ∷ line) - 1) = omega arith in
+    rw (drop-cons (byte ∷ line) (length (byte ∷ line) - 1) 0 l, drop_of_length-le (byte ∷ line) over) (and-true-right _)
+
+-- A line without it.
 module _ (line : List ℕ) where
-  pub return-none : length line ≡ 0 → take 0 line ≡ without_return line
+  abbrev ends : Bool
+  ends = pointwise eqb (drop (length line - 1) line) (carriage_return ∷ [])
+
+  pub unreturned-there : (r : Option (Bor (List ℕ))) (whole : Bor (List ℕ)) → whole.now ≡ line
+      → MatchOption r (ends ≡ false) (λ x. (ends ≡ true) × (x.now ≡ take (length line - 1) line) × (length x.now + 1 ≡ length line))
+      → (unwrap_or r whole).now ≡ without_return line
   unfolding without_return
-  return-none = go line
+  unreturned-there None whole e other = rw (← ends-in-return line, other) e
+  unreturned-there (Some x) whole e there = rw (← ends-in-return line, there.0) there.1
+
+  -- It is the line, cut.
+  pub return-cut : (take (length (without_return line)) line ≡ without_return line) × (length (without_return line) ≤ length line)
+  unfolding without_return
+  return-cut = go (eqb (last_of line) carriage_return)
     where
-      go : (l : List ℕ) → length l ≡ 0 → take 0 l ≡ cond (eqb (last_of l) carriage_return) (take (length l - 1) l) l
-      go [] h = refl
-      go (byte ∷ l) h = absurd (omega arith)
-
-  pub return-left-out : get_or line (length line - 1) 0 ≡ 13 → take (length line - 1) line ≡ without_return line
-  unfolding without_return
-  return-left-out e = rw (eq-eqb _ _ e)
-
-  pub return-not-there : (get_or line (length line - 1) 0 ≡ 13 → ⊥) → take (length line) line ≡ without_return line
-  unfolding without_return
-  return-not-there e = rw (ne_eqb _ _ e) (take-length line)
+      go : (b : Bool) → (take (length (cond b (take (length line - 1) line) line)) line ≡ cond b (take (length line - 1) line) line)
+          × (length (cond b (take (length line - 1) line) line) ≤ length line)
+      go true = let l : length line - 1 ≤ length line = omega arith in rw (length-take-le (length line - 1) line l) (refl, l)
+      go false = (take-length line, omega arith)
 
 -- What a line says.
-pub said-there : (line : List ℕ) {end to : ℕ} → end ≤ length line → take end line ≡ without_return line → to ≡ length (before comment_sign (take end line))
-    → to ≤ length (take end line) → (to ≡ length (said_in line)) × (take to line ≡ said_in line) × (to ≤ length line)
+pub said-there : (line cut : List ℕ) (to : ℕ) → cut ≡ without_return line → to ≡ length (before comment_sign cut) → to ≤ length cut
+    → (to ≡ length (said_in line)) × (take to line ≡ said_in line) × (to ≤ length line)
 unfolding said_in
-said-there line {end} {to} inside e et few =
-    let l : length (take end line) ≡ end = length-take-le end line inside in
-    let short : to ≤ end = omega arith in
-    let few' : to ≤ length line = omega arith in
-    let said = sym (take-take to end line short) ∙ up_to comment_sign (take end line) et ∙ ap (before comment_sign) e in
-    (sym (length-take-le to line few') ∙ ap length said, said, few')
-
-pub says_there : (said : List ℕ) (from : ℕ) → drop from said ≡ without_lead said → ltb from (length said) ≡ ltb 0 (length (without_lead said))
-says_there said from e = rw (← e, length-drop) (go (ltb from (length said)) refl)
-  where
-    go : (b : Bool) → ltb from (length said) ≡ b → b ≡ ltb 0 (length said - from)
-    go true h = let l : 0 < length said - from = omega (arith, ltb-true from (length said) h) in sym (lt-ltb 0 (length said - from) l)
-    go false h = let l : length said - from ≤ 0 = omega (arith, ltb-false from (length said) h) in sym (le-ltb 0 (length said - from) l)
+said-there line cut to e et few =
+    let whole = return-cut line in
+    let et' : to ≡ length (before comment_sign (without_return line)) = rw e at et in
+    let short : to ≤ length (without_return line) = rw e at few in
+    (et', sym (take-take to (length (without_return line)) line short) ∙ ap (take to) whole.0 ∙ up_to comment_sign (without_return line) et', omega (arith, whole.1))

@@ -5,8 +5,7 @@ ghost use Rattle.std.specs.Prelude.{◌≡◌, ◌+◌, ◌≤◌, length};
 ghost use Rattle.std.proofs.lemmas.List.Edits.{sets};
 ghost use Rattle.buffers.specs.Filled.{filled, HasFirst};
 ghost use Rattle.digits.specs.Put.{put_at, place_after};
-ghost use Rattle.refusals.specs.Words.{words_of};
-ghost use Rattle.text_messages.specs.Messages.{saying, why_words, at_line, bad_text, refused_at, in_line, refused_in};
+ghost use Rattle.text_messages.specs.Messages.{saying, said_words, at_line, bad_text, refused_at, in_line, refused_in};
 ghost use Rattle.text_messages.specs.Messages.{refused as refused_message};
 
 use digits::{put_decimal, put_text};
@@ -15,38 +14,36 @@ use refusals::{WORDS_SIZE, put_words};
 // Enough for each message: its texts, three numbers of at most 20 digits and the words.
 pub const MESSAGE_SIZE: usize = 8 + 20 + 4 + 20 + 7 + 20 + 1 + 2 + WORDS_SIZE + 1;
 
-// Puts why a line is bad, as digits::put_text does.
-fn put_why(out: &mut [u8], at: usize, why: u8) -> usize
-    ensures value { result ≡ place_after out.old at (why_words why) }
-    ensures out_after { out.new ≡ put_at out.old at (why_words why) }
+// What is said behind a place: why a line is bad, by the reader's number, or the words of a refusal.
+#[derive(Clone, Copy)]
+enum Said {
+    Why(u8),
+    Refusal(u8),
+}
+
+// Puts it, as digits::put_text does.
+#[tactic(auto, unfolding(digits::specs::Ascii::ascii))]
+fn put_said(out: &mut [u8], at: usize, said: Said) -> usize
+    ensures value { result ≡ place_after out.old at (said_words said) }
+    ensures out_after { out.new ≡ put_at out.old at (said_words said) }
 {
-    match why {
-        1 => put_text(out, at, b"not N, one to three decimal digits"),
-        2 => put_text(out, at, b"not HEAD:VALUE in hexadecimal"),
-        5 => put_text(out, at, b"the head has fewer than eight digits"),
-        _ => put_words(out, at, 3),
+    match said {
+        Said::Why(1) => put_text(out, at, b"not N, one to three decimal digits"),
+        Said::Why(2) => put_text(out, at, b"not HEAD:VALUE in hexadecimal"),
+        Said::Why(5) => put_text(out, at, b"the head has fewer than eight digits"),
+        Said::Why(_) => put_words(out, at, 3),
+        Said::Refusal(refusal) => put_words(out, at, refusal),
     }
 }
 
-// Puts what is said of a bad line behind its place, and answers the place after it.
-fn put_reason(out: &mut [u8], at: usize, why: u8) -> usize
-    requires { at + length (saying (why_words why)) ≤ length out.old }
-    ensures value { result ≡ at + length (saying (why_words why)) }
-    ensures out_after { out.new ≡ sets out.old at (saying (why_words why)) }
+// Puts what is said, between a colon and the end of the line, and answers the place after it.
+fn put_saying(out: &mut [u8], at: usize, said: Said) -> usize
+    requires { at + length (saying (said_words said)) ≤ length out.old }
+    ensures value { result ≡ at + length (saying (said_words said)) }
+    ensures out_after { out.new ≡ sets out.old at (saying (said_words said)) }
 {
     let a = put_text(out, at, b": ");
-    let b = put_why(out, a, why);
-    put_text(out, b, b"\n")
-}
-
-// Puts what is said of a refusal behind its place, and answers the place after it.
-fn put_refusal(out: &mut [u8], at: usize, refusal: u8) -> usize
-    requires { at + length (saying (words_of refusal)) ≤ length out.old }
-    ensures value { result ≡ at + length (saying (words_of refusal)) }
-    ensures out_after { out.new ≡ sets out.old at (saying (words_of refusal)) }
-{
-    let a = put_text(out, at, b": ");
-    let b = put_words(out, a, refusal);
+    let b = put_said(out, a, said);
     put_text(out, b, b"\n")
 }
 
@@ -89,11 +86,13 @@ pub fn bad_text(why: u8, line: usize, out: &mut [u8; MESSAGE_SIZE]) -> usize
     ensures out_after { out.new ≡ filled (bad_text why line) out.old }
     ensures has_first { HasFirst result out.new }
 {
-    if ((1 <= why) & (why <= 3)) | (why == 5) {
-        let a = put_line(out, line);
-        return put_reason(out, a, why);
+    match why {
+        1..=3 | 5 => {
+            let a = put_line(out, line);
+            put_saying(out, a, Said::Why(why))
+        }
+        _ => put_text(out, 0, b"refused: the text has more than 1,048,576 bytes\n"),
     }
-    put_text(out, 0, b"refused: the text has more than 1,048,576 bytes\n")
 }
 
 // Says why a record is refused, and at which place.
@@ -103,7 +102,7 @@ pub fn refused(refusal: u8, place: usize, out: &mut [u8; MESSAGE_SIZE]) -> usize
     ensures has_first { HasFirst result out.new }
 {
     let a = put_place(out, refusal, place);
-    put_refusal(out, a, refusal)
+    put_saying(out, a, Said::Refusal(refusal))
 }
 
 // Says why the record of a text is refused, at which place, and in which line of the text.
@@ -114,5 +113,5 @@ pub fn refused_in(refusal: u8, place: usize, line: usize, out: &mut [u8; MESSAGE
 {
     let a = put_place(out, refusal, place);
     let b = put_in_line(out, a, line);
-    put_refusal(out, b, refusal)
+    put_saying(out, b, Said::Refusal(refusal))
 }

@@ -10,10 +10,9 @@ use borrow.Author.Tests.{eq-eqb, ne_eqb, eqb-true, eqb-false, leb-true, leb-fals
 use lib.Dec.{eqb, leb}
 use lib.ListN.{length, get_or, drop, length-append}
 use Rattle.record.specs.Record.{most_events}
-use Rattle.text_reader.specs.declared.Fault.{Fault}
 use Rattle.text_lines.specs.Lines.{line_feed, before, after, onto, lines_in}
 use Rattle.text_lines.specs.Rows.{said_in, is_blank, without_lead, kept_of, says_any, Row, rows_from}
-use Rattle.text_reader.specs.Reading.{is_event, has_whole_head, not_event, too_many, short_head, events_fault}
+use Rattle.text_reader.specs.Reading.{Fault, is_event, has_whole_head, not_event, too_many, short_head, events_fault}
 
 -- No byte of the list is the mark.
 pub data Free (mark : ℕ) : List ℕ → Type 0 where

@@ -1,30 +1,22 @@
 -- The loops over the lines and the rows: their turns, and the places at which they end.
 use mathlib.Core.Path.{◌≡◌, refl, sym, ap, ◌∙◌}
-use mathlib.Core.Bool.{Bool, true, false, cond, not, ◌&&◌}
-use Prim.Native.Nat.{ℕ, zero, suc, ◌+◌, ◌-◌, ◌≤◌, ◌<◌, min}
+use mathlib.Core.Bool.{Bool, true, false, cond, not}
+use Prim.Native.Nat.{ℕ, zero, suc, ◌+◌, ◌≤◌, ◌<◌}
 use native.Mathlib.Numerals.{add-one}
 use native.Mathlib.Omega.{arith}
 use mathlib.Core.List.{List, [], ◌∷◌, ◌++◌, map, map-append}
-use borrow.Author.Tests.{le-leb, lt-leb, not-false}
-use lib.Dec.{leb, ltb, eqb}
-use lib.ListN.{length, take, drop, set, length-drop, drop_of_length-le}
-use lib.Seq.{take-suc-set, take-take, drop-drop, length-take-le}
+use borrow.Author.Tests.{le-leb, lt-leb}
+use lib.Dec.{leb, ltb}
+use lib.ListN.{length, take, drop, set, length-drop}
+use lib.Seq.{take-suc-set}
 use Rattle.record.specs.Record.{most_events}
-use Rattle.text_reader.specs.declared.Event.{Event}
-use Rattle.text_reader.specs.declared.Fault.{Fault}
-use Rattle.text_lines.specs.declared.Number.{Number}
 use Rattle.text_lines.specs.Lines.{line_feed, before, after, lines_in}
-use Rattle.text_lines.specs.Rows.{said_in, without_lead, trimmed, says_any, Row, rows_from}
+use Rattle.text_lines.specs.Rows.{said_in, without_lead, says_any, Row, rows_from}
 use Rattle.text_lines.specs.Numbers.{number_in}
-use Rattle.text_reader.specs.Reading.{head_part, value_part, is_event, has_whole_head, head_in, value_in, event_in, no_fault, not_event, too_many, short_head, events_fault}
-use Rattle.text_lines.proofs.Marks.{up_to, from_past, rest_of, lines-first}
+use Rattle.text_reader.specs.Reading.{Fault, head_part, value_part, is_event, has_whole_head, head_in, value_in, event_in, fault, no_fault, why_not_event, why_short_head, not_event, too_many, short_head, events_fault}
+use Rattle.text_reader.specs.Answers.{good, bad, read_of}
+use Rattle.text_lines.proofs.Marks.{lines-first}
 use Rattle.text_lines.proofs.Digits.{and-true, found_ok, found-value}
-
--- The parts of a row: what is read of them is the event of the row.
-pub event-there : (said : List ℕ) {at next size : ℕ} {h v : Number} → at ≡ length (before 58 said) → next ≡ min (at + 1) (length said)
-    → h ≡ number_in 16 8 (trimmed (take at said)) → size ≡ length (trimmed (take at said)) → v ≡ number_in 16 8 (trimmed (take (length said - next) (drop next said)))
-    → record { ok = h.ok && v.ok; whole = eqb size 8; head = h.value; value = v.value } ≡ event_in said
-event-there said {at} {next} ea en eh es ev = rw (eh, es, ev, rest_of said next, up_to 58 said ea, from_past 58 said ea en)
 
 -- What is found in a row is an event just where it is one.
 pub event-ok : (said : List ℕ) → (event_in said).ok ≡ is_event said
@@ -40,85 +32,58 @@ module _ (row : Row) (good : (event_in row.said).ok ≡ true) where
   pub event-value : (event_in row.said).value ≡ value_in row
   event-value = found-value 16 8 (value_part row.said) both.1
 
--- The line from a place on: what it says, and where the next begins.
-module _ (text : List ℕ) (from : ℕ) (h : from ≤ length text) {end : ℕ} (e : end ≡ length (before line_feed (take (length text - from) (drop from text))))
-    (inside : end ≤ length (take (length text - from) (drop from text))) where
-  abbrev rest : List ℕ
-  rest = take (length text - from) (drop from text)
-
-  abbrev line : List ℕ
-  line = before line_feed (drop from text)
-
-  rest_end : end ≡ length line
-  rest_end = rw rest_of at e
-
-  line-is : take end rest ≡ line
-  line-is = rw (rest_of text from) (up_to line_feed (drop from text) rest_end)
-
-  pub said-is : (to : ℕ) → take to (take end rest) ≡ said_in (take end rest) → to ≤ length (take end rest)
-      → (take to (drop from text) ≡ said_in line) × (from + to ≤ length text)
-  said-is to es few =
-      let l : length (take end rest) ≡ end = length-take-le end rest inside in
-      let short : to ≤ end = omega arith in
-      let r : length rest ≡ length (drop from text) = ap length (rest_of text from) in
-      (sym (ap (take to) (rest_of text from)) ∙ sym (take-take to end rest short) ∙ es ∙ ap said_in line-is, omega (arith, length-drop from text))
-
-  pub says_is : (to : ℕ) → take to (take end rest) ≡ said_in (take end rest) → {says : Bool} → says ≡ ltb 0 (length (without_lead (take to (take end rest)))) → says ≡ says_any line
-  unfolding says_any
-  says_is to es ev = ev ∙ ap (λ (l : List ℕ). ltb 0 (length (without_lead l))) (es ∙ ap said_in line-is)
-
-  pub next-there : {p : ℕ} → p ≡ min (end + 1) (length rest)
-      → (from + p ≤ length text) × (drop (from + p) text ≡ after line_feed (drop from text)) × (from < length text → from < from + p)
-  next-there {p} ep =
-      let ep' : p ≡ min (end + 1) (length (drop from text)) = rw rest_of at ep in
-      let el = length-drop from text in (
-        omega arith,
-        sym (drop-drop p from text) ∙ from_past line_feed (drop from text) rest_end ep',
-        (λ l. omega arith),
-      )
+-- What is read of a row.
+read-is : (row : Row) → read_of (event_in row.said)
+    ≡ cond (is_event row.said) (cond (has_whole_head row.said) (good (head_in row) (value_in row)) (bad why_short_head)) (bad why_not_event)
+read-is row = by-case (event_in row.said).ok refl
+  where
+    by-case : (ok : Bool) → (event_in row.said).ok ≡ ok → read_of (event_in row.said)
+        ≡ cond (is_event row.said) (cond (has_whole_head row.said) (good (head_in row) (value_in row)) (bad why_short_head)) (bad why_not_event)
+    by-case true e = rw (← event-ok row.said, e, event-head row e, event-value row e)
+    by-case false e = rw (← event-ok row.said, e)
 
 -- At a line: the rows from it on.
-module _ (text : List ℕ) (at : ℕ) (h : at < length text) (next : ℕ) (en : drop next text ≡ after line_feed (drop at text)) where
-  abbrev here : List ℕ
-  here = before line_feed (drop at text)
+module _ (text : List ℕ) (h : 0 < length text) {line rest : List ℕ} (el : line ≡ before line_feed text) (er : rest ≡ after line_feed text) where
+  first : lines_in text ≡ line ∷ lines_in rest
+  first = rw (el, er) (lines-first text h)
 
-  first : lines_in (drop at text) ≡ here ∷ lines_in (drop next text)
-  first =
-      let l : 0 < length (drop at text) = simp length-drop (omega arith) in
-      lines-first (drop at text) l ∙ ap (λ (t : List ℕ). here ∷ lines_in t) (sym en)
-
-  rows-here : (k : ℕ) → rows_from k (lines_in (drop at text))
-      ≡ cond (says_any here) (record { number = k; said = said_in here } ∷ rows_from (suc k) (lines_in (drop next text))) (rows_from (suc k) (lines_in (drop next text)))
+  rows-here : (k : ℕ) → rows_from k (lines_in text)
+      ≡ cond (says_any line) (record { number = k; said = said_in line } ∷ rows_from (suc k) (lines_in rest)) (rows_from (suc k) (lines_in rest))
   unfolding rows_from
   rows-here k = rw first
 
-  module _ (k : ℕ) {says : Bool} (es : says ≡ says_any here) where
+  pub one_line-more : (k : ℕ) {x : ℕ} → x ≡ k + length (lines_in text) → x ≡ k + 1 + length (lines_in rest)
+  one_line-more k q = let l : length (lines_in text) ≡ suc (length (lines_in rest)) = ap length first in omega arith
+
+  module _ (k : ℕ) {said : List ℕ} (et : said ≡ said_in line) {says : Bool} (es : says ≡ ltb 0 (length (without_lead said))) where
+    says_is : says ≡ says_any line
+    unfolding says_any
+    says_is = es ∙ ap (λ (l : List ℕ). ltb 0 (length (without_lead l))) et
+
     -- It says nothing.
-    pub row-past : says ≡ false → {x : List Row} → x ≡ rows_from k (lines_in (drop at text)) → x ≡ rows_from (k + 1) (lines_in (drop next text))
-    row-past z q = rw add-one (q ∙ rows-here k ∙ rw (← es, z))
+    pub row-past : says ≡ false → {x : List Row} → x ≡ rows_from k (lines_in text) → x ≡ rows_from (k + 1) (lines_in rest)
+    row-past z q = rw add-one (q ∙ rows-here k ∙ rw (← says_is, z))
 
     -- It is a row.
-    pub row-found : says ≡ true → (length : ℕ) → take length (drop at text) ≡ said_in here → {x : List Row} → x ≡ rows_from k (lines_in (drop at text))
-        → x ≡ record { number = k; said = take (at + length - at) (drop at text) } ∷ rows_from (k + 1) (lines_in (drop next text))
-    row-found z length el q =
-        let same : at + length - at ≡ length = omega arith in
-        rw add-one (q ∙ rows-here k ∙ rw (← es, z, same, el))
-
-  pub one_line-more : (k : ℕ) {x : ℕ} → x ≡ k + length (lines_in (drop at text)) → x ≡ k + 1 + length (lines_in (drop next text))
-  one_line-more k q = let l : length (lines_in (drop at text)) ≡ suc (length (lines_in (drop next text))) = ap length first in omega arith
+    pub row-found : says ≡ true → {x : List Row} → x ≡ rows_from k (lines_in text) → x ≡ record { number = k; said = said } ∷ rows_from (k + 1) (lines_in rest)
+    row-found z q = rw add-one (q ∙ rows-here k ∙ rw (← says_is, z, et))
 
 -- Past the last line.
-module _ (text : List ℕ) (at : ℕ) (h : length text ≤ at) where
-  none : lines_in (drop at text) ≡ []
+module _ (text : List ℕ) (h : length text ≡ 0) where
+  none : lines_in text ≡ []
   unfolding lines_in
-  none = rw (drop_of_length-le text h)
+  none = go text h
+    where
+      go : (text : List ℕ) → length text ≡ 0 → lines_in text ≡ []
+      go [] h = refl
+      go (byte ∷ text) h = absurd (omega arith)
 
-  pub no_row : (k : ℕ) {x : List Row} → x ≡ rows_from k (lines_in (drop at text)) → x ≡ []
+  pub no_row : (k : ℕ) {x : List Row} → x ≡ rows_from k (lines_in text) → x ≡ []
   unfolding rows_from
   no_row k q = q ∙ rw none
 
-  pub no_line : (k : ℕ) {x : ℕ} → x ≡ k + length (lines_in (drop at text)) → k ≡ x
-  no_line k q = let l : length (lines_in (drop at text)) ≡ 0 = ap length none in omega arith
+  pub no_line : (k : ℕ) {x : ℕ} → x ≡ k + length (lines_in text) → k ≡ x
+  no_line k q = let l : length (lines_in text) ≡ 0 = ap length none in omega arith
 
 -- The list after its first n, where there is one more.
 one_on : (n : ℕ) (rows : List Row) (row : Row) (rest : List Row) → drop n rows ≡ row ∷ rest
@@ -161,30 +126,33 @@ module _ (n : ℕ) (row : Row) {rest x : List Row} (q : x ≡ row ∷ rest) wher
   pub fault-many : most_events ≤ n → {f : Fault} → f ≡ events_fault n x → too_many row.number ≡ f
   fault-many h ef = sym (ef ∙ fault-here ∙ rw (le-leb _ _ h))
 
-  module _ (h : n < most_events) {v : Event} (ev : v ≡ event_in row.said) where
-    ok-is : v.ok ≡ is_event row.said
-    ok-is = ap (λ (w : Event). w.ok) ev ∙ event-ok row.said
+  module _ (h : n < most_events) where
+    good-here : (ok whole : Bool) → is_event row.said ≡ ok → has_whole_head row.said ≡ whole
+        → events_fault n x ≡ cond ok (cond whole (events_fault (n + 1) rest) (short_head row.number)) (not_event row.number)
+    good-here true true e w = fault-here ∙ rw (lt-leb _ _ h, e, w, add-one)
+    good-here true false e w = fault-here ∙ rw (lt-leb _ _ h, e, w)
+    good-here false whole e w = fault-here ∙ rw (lt-leb _ _ h, e)
 
-    whole_is : v.whole ≡ has_whole_head row.said
-    whole_is = ap (λ (w : Event). w.whole) ev
+    pub fault-bad : {number : ℕ} → bad number ≡ read_of (event_in row.said) → {f : Fault} → f ≡ events_fault n x → fault number row.number ≡ f
+    fault-bad {number} eb ef = by-case (is_event row.said) (has_whole_head row.said) (eb ∙ read-is row) (good-here _ _ refl refl) ∙ sym ef
+      where
+        by-case : (ok whole : Bool) → bad number ≡ cond ok (cond whole (good (head_in row) (value_in row)) (bad why_short_head)) (bad why_not_event)
+            → events_fault n x ≡ cond ok (cond whole (events_fault (n + 1) rest) (short_head row.number)) (not_event row.number)
+            → fault number row.number ≡ events_fault n x
+        by-case true true e q = cc
+        by-case true false e q = cc
+        by-case false whole e q = cc
 
-    pub fault-event : not v.ok ≡ true → {f : Fault} → f ≡ events_fault n x → not_event row.number ≡ f
-    fault-event z ef = sym (ef ∙ fault-here ∙ rw (lt-leb _ _ h, ← ok-is, z))
-
-    pub fault-short : not v.ok ≡ false → not v.whole ≡ true → {f : Fault} → f ≡ events_fault n x → short_head row.number ≡ f
-    fault-short z w ef = sym (ef ∙ fault-here ∙ rw (lt-leb _ _ h, ← ok-is, z, ← whole_is, w))
-
-    pub fault-turn : not v.ok ≡ false → not v.whole ≡ false → {f : Fault} → f ≡ events_fault n x → f ≡ events_fault (n + 1) rest
-    fault-turn z w ef = ef ∙ fault-here ∙ rw (lt-leb _ _ h, ← ok-is, z, ← whole_is, w, add-one)
-
-    is-good : not v.ok ≡ false → (event_in row.said).ok ≡ true
-    is-good z = ap (λ (w : Event). w.ok) (sym ev) ∙ not-false v.ok z
-
-    pub head-is : not v.ok ≡ false → v.head ≡ head_in row
-    head-is z = ap (λ (w : Event). w.head) ev ∙ event-head row (is-good z)
-
-    pub value-is : not v.ok ≡ false → v.value ≡ value_in row
-    value-is z = ap (λ (w : Event). w.value) ev ∙ event-value row (is-good z)
+    pub good-turn : {head value : ℕ} → good head value ≡ read_of (event_in row.said)
+        → (events_fault n x ≡ events_fault (n + 1) rest) × (head ≡ head_in row) × (value ≡ value_in row)
+    good-turn {head} {value} eb = by-case (is_event row.said) (has_whole_head row.said) (eb ∙ read-is row) (good-here _ _ refl refl)
+      where
+        by-case : (ok whole : Bool) → good head value ≡ cond ok (cond whole (good (head_in row) (value_in row)) (bad why_short_head)) (bad why_not_event)
+            → events_fault n x ≡ cond ok (cond whole (events_fault (n + 1) rest) (short_head row.number)) (not_event row.number)
+            → (events_fault n x ≡ events_fault (n + 1) rest) × (head ≡ head_in row) × (value ≡ value_in row)
+        by-case true true e q = (cc, cc, cc)
+        by-case true false e q = (cc, cc, cc)
+        by-case false whole e q = (cc, cc, cc)
 
 pub fault-none : (n : ℕ) {x : List Row} → x ≡ [] → {f : Fault} → f ≡ events_fault n x → no_fault ≡ f
 unfolding events_fault

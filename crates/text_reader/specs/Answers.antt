@@ -1,11 +1,41 @@
 -- What making a record of a text answers, and what it leaves in what it was lent.
-use Rattle.std.specs.Prelude.{ℕ, suc, Bool, cond, List, [], ◌∷◌, get_or, leb, eqb}
+use Rattle.std.specs.Prelude.{ℕ, suc, Bool, cond, Result, Ok, Err, List, [], ◌∷◌, get_or, leb, eqb}
 use Rattle.record.specs.Answers.{Answer, done_with, refused_at, write_answer, written_bytes}
-use Rattle.text_reader.specs.declared.RecordAnswer.{RecordAnswer}
-use Rattle.text_reader.specs.declared.RecordAnswer.TheVariants as to_record
-use Rattle.text_reader.specs.declared.Fault.{Fault}
+use Rattle.questions.specs.Numbers.{number_of}
+use Rattle.text_reader.specs.declared.NotRecord.{NotRecord}
+use Rattle.text_reader.specs.declared.NotRecord.TheVariants as not_record
+use Rattle.text_reader.specs.declared.Why.{Why}
+use Rattle.text_reader.specs.declared.Why.TheVariants as why
+use Rattle.text_reader.specs.declared.Event as of_row
+use Rattle.text_reader.specs.declared.Fault as of_text
 use Rattle.text_lines.specs.Rows.{rows_of}
-use Rattle.text_reader.specs.Reading.{fault, text_fault, sources_of_text, heads_of_text, values_of_text, numbers_of}
+use Rattle.text_reader.specs.Reading.{Event, Fault, fault, no_fault, why_not_sources, why_not_event, why_too_many, why_too_long, why_short_head, text_fault, sources_of_text, heads_of_text, values_of_text, numbers_of}
+
+-- The number of each reason.
+abbrev pub why_number : Why → ℕ
+why_number why.NotSources = why_not_sources
+why_number why.NotEvent = why_not_event
+why_number why.TooMany = why_too_many
+why_number why.TooLong = why_too_long
+why_number why.ShortHead = why_short_head
+
+-- What is read of a row: its head and value, or the number of the reason why it is bad.
+pub data Read : Type 0 where
+  good : ℕ → ℕ → Read
+  bad : ℕ → Read
+
+abbrev pub event_by : Result of_row.Event Why → Read
+event_by (Ok event) = good event.head event.value
+event_by (Err reason) = bad (why_number reason)
+
+-- The same of what is found in it: a row that is no event is bad, and an event whose head does not have eight digits.
+abbrev pub read_of : Event → Read
+read_of event = cond event.ok (cond event.whole (good event.head event.value) (bad why_short_head)) (bad why_not_event)
+
+-- The fault of what is read of a text, or of its rows.
+abbrev pub fault_by : {A : Type 0} → Result A of_text.Fault → Fault
+fault_by (Ok read) = no_fault
+fault_by (Err found) = fault (why_number found.why) found.line
 
 -- A fault of the text is answered with its line. Where there is none, the record's own questions are asked, and the writer answers;
 -- beside its answer stands the line that a refusal is about, 0 where the record is made.
@@ -14,10 +44,10 @@ pub data LinesAnswer : Type 0 where
   written : Answer → ℕ → LinesAnswer
 
 -- The numbers of each answer: the length; the fault; or the refusal, its place and its line.
-abbrev pub record_numbers : RecordAnswer → LinesAnswer
-record_numbers (to_record.Done count) = written (done_with (count ∷ [])) 0
-record_numbers (to_record.BadText reason number) = faulty (fault reason number)
-record_numbers (to_record.Refused number at row) = written (refused_at number at) row
+abbrev pub record_numbers : Result ℕ NotRecord → LinesAnswer
+record_numbers (Ok count) = written (done_with (count ∷ [])) 0
+record_numbers (Err (not_record.BadText found)) = faulty (fault (why_number found.why) found.line)
+record_numbers (Err (not_record.Refused r row)) = written (refused_at (number_of r.refusal) r.place) row
 
 -- The text has no fault.
 abbrev pub is_well : List ℕ → Bool
@@ -46,7 +76,6 @@ to_record_bytes text bytes =
     cond (is_well text) (written_bytes (sources_of_text text) (heads_of_text text) (values_of_text text) bytes) bytes
 
 -- The length of the record that was made, 0 where none was.
-abbrev pub record_length : RecordAnswer → ℕ
-record_length (to_record.Done count) = count
-record_length (to_record.BadText reason number) = 0
-record_length (to_record.Refused number at row) = 0
+abbrev pub record_length : Result ℕ NotRecord → ℕ
+record_length (Ok count) = count
+record_length (Err none) = 0

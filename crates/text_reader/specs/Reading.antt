@@ -5,8 +5,6 @@ use Rattle.text_lines.specs.Lines.{colon, before, after, lines_in}
 use Rattle.text_lines.specs.Rows.{trimmed, Row, rows_of}
 use Rattle.text_lines.specs.Numbers.{is_number, number_in}
 use Rattle.digits.specs.Digits.{number_of}
-use Rattle.text_reader.specs.declared.Event.{Event}
-use Rattle.text_reader.specs.declared.Fault.{Fault}
 
 -- The first row: N in decimal, 1 to 3 digits.
 abbrev pub is_sources : List ℕ → Bool
@@ -39,7 +37,13 @@ head_in row = number_of 16 (head_part row.said)
 abbrev pub value_in : Row → ℕ
 value_in row = number_of 16 (value_part row.said)
 
--- What is found in such a row: of a part that is no number, 0.
+-- What is found in such a row: whether it is an event, whether its head has eight digits, and its head and value; of a part that is no number, 0.
+pub record Event : Type 0 where
+  pub ok : Bool
+  pub whole : Bool
+  pub head : ℕ
+  pub value : ℕ
+
 abbrev pub event_in : List ℕ → Event
 event_in said =
     record {
@@ -50,6 +54,10 @@ event_in said =
     }
 
 -- What is wrong with a text: why, and the number of the line. Nothing is 0 and 0.
+pub record Fault : Type 0 where
+  pub why : ℕ
+  pub line : ℕ
+
 abbrev pub fault : ℕ → ℕ → Fault
 fault reason number = record { why = reason; line = number }
 

@@ -8,17 +8,10 @@ ghost use Rattle.text_writer.specs.Writing.{ended, event_text, events_text, list
 ghost use Rattle.text_writer.specs.Answers.{text_numbers, to_text_answer, to_text_bytes, text_length};
 ghost use Rattle.text_writer.specs.RoundTrip.{ComesBack};
 
-use record::{MOST_EVENTS, ReadAnswer};
+use record::{MOST_EVENTS, Refused};
 
 // The bytes of the longest text that is made: 4 of line 1, and 18 of each event.
 pub const LISTING_SIZE: usize = 4 + 18 * MOST_EVENTS;
-
-// What making a text of a record answers: the text's length; or the reader's refusal.
-#[derive(Clone, Copy)]
-pub enum TextAnswer {
-    Done { length: usize },
-    Refused { refusal: u8, place: usize },
-}
 
 // Puts the line of an event into the text from a place on, and answers the place after it.
 fn put_event(text: &mut [u8], at: usize, head: u32, value: u32) -> usize
@@ -39,10 +32,8 @@ fn put_events(text: &mut [u8], from: usize, heads: &[u32], values: &[u32]) -> us
     ensures text_after { text.new ≡ sets text.old from (events_text heads.now values.now) }
 {
     let mut at = from;
-    let mut i: usize = 0;
-    while i < heads.len() {
-        at = put_event(text, at, heads[i], values[i]);
-        i += 1;
+    for (head, value) in heads.iter().zip(values) {
+        at = put_event(text, at, *head, *value);
     }
     at
 }
@@ -59,8 +50,8 @@ fn put_listing(text: &mut [u8], sources: u32, heads: &[u32], values: &[u32]) -> 
     put_events(text, b, heads, values)
 }
 
-// Makes a text of a record: accepted, the text fills the first bytes; refused, all of them stay as they were.
-pub fn to_text(bytes: &[u8], text: &mut [u8; LISTING_SIZE]) -> TextAnswer
+// Makes a text of a record: accepted, the text fills the first bytes, and their number is answered; refused, all of them stay as they were.
+pub fn to_text(bytes: &[u8], text: &mut [u8; LISTING_SIZE]) -> Result<usize, Refused>
     ensures result_value { text_numbers result ≡ to_text_answer bytes.now }
     ensures text_after { text.new ≡ to_text_bytes bytes.now text.old }
     ensures result_in_bounds { text_length result ≤ length text.new }
@@ -68,12 +59,7 @@ pub fn to_text(bytes: &[u8], text: &mut [u8; LISTING_SIZE]) -> TextAnswer
 {
     let mut heads: [u32; MOST_EVENTS] = [0; MOST_EVENTS];
     let mut values: [u32; MOST_EVENTS] = [0; MOST_EVENTS];
-    let got = record::read(bytes, &mut heads, &mut values);
-    match got {
-        ReadAnswer::Done { events, sources } => {
-            let length = put_listing(text, sources, &heads[..events], &values[..events]);
-            TextAnswer::Done { length }
-        }
-        ReadAnswer::Refused { refusal, place } => TextAnswer::Refused { refusal, place },
-    }
+    let sizes = record::read(bytes, &mut heads, &mut values)?;
+    let n = sizes.events;
+    Ok(put_listing(text, sizes.sources, &heads[..n], &values[..n]))
 }

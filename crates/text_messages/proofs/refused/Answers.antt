@@ -12,8 +12,8 @@ put_place-a-requires c =
     let room : message_size ≤ length c.args.out.now = search rules in
     room-first (length c.args.out.now) 0 (refused_at c.args.refusal c.args.place) (saying (words_of c.args.refusal)) (refused-fits c.args.refusal c.args.place (length c.args.out.now) room)
 
-pub put_refusal-requires : goal.put_refusal-requires
-put_refusal-requires c =
+pub put_saying-requires : goal.put_saying-requires
+put_saying-requires c =
     let room : message_size ≤ length c.args.out.now = search rules in
     room-second c.args.out.now 0 (refused_at c.args.refusal c.args.place) (saying (words_of c.args.refusal)) (refused-fits c.args.refusal c.args.place (length c.args.out.now) room) (c.put_place-a.ensures.value, c.put_place-a.ensures.out_after)
 
@@ -21,4 +21,4 @@ pub returns : goal.returns
 returns c =
     let room : message_size ≤ length c.args.out.now = search rules in
     let r = made c.args.out.now (refused c.args.refusal c.args.place) (refused-fits c.args.refusal c.args.place (length c.args.out.now) room)
-    (two c.args.out.now 0 (refused_at c.args.refusal c.args.place) (saying (words_of c.args.refusal)) (c.put_place-a.ensures.value, c.put_place-a.ensures.out_after) (c.put_refusal.ensures.value, c.put_refusal.ensures.out_after)) in record { value = r.0; out_after = r.1.0; has_first = r.1.1 }
+    (two c.args.out.now 0 (refused_at c.args.refusal c.args.place) (saying (words_of c.args.refusal)) (c.put_place-a.ensures.value, c.put_place-a.ensures.out_after) (c.put_saying.ensures.value, c.put_saying.ensures.out_after)) in record { value = r.0; out_after = r.1.0; has_first = r.1.1 }

@@ -18,8 +18,8 @@ put_in_line-b-requires c =
     let room : message_size ≤ length c.args.out.now = search rules in
     room-second c.args.out.now 0 (refused_at c.args.refusal c.args.place) (in_line c.args.line) (room-first (length c.args.out.now) 0 ((refused_at c.args.refusal c.args.place) ++ (in_line c.args.line)) (saying (words_of c.args.refusal)) (refused-in-fits c.args.refusal c.args.place c.args.line (length c.args.out.now) room)) (c.put_place-a.ensures.value, c.put_place-a.ensures.out_after)
 
-pub put_refusal-requires : goal.put_refusal-requires
-put_refusal-requires c =
+pub put_saying-requires : goal.put_saying-requires
+put_saying-requires c =
     let room : message_size ≤ length c.args.out.now = search rules in
     room-second c.args.out.now 0 ((refused_at c.args.refusal c.args.place) ++ (in_line c.args.line)) (saying (words_of c.args.refusal)) (refused-in-fits c.args.refusal c.args.place c.args.line (length c.args.out.now) room)
     (two c.args.out.now 0 (refused_at c.args.refusal c.args.place) (in_line c.args.line) (c.put_place-a.ensures.value, c.put_place-a.ensures.out_after) (c.put_in_line-b.ensures.value, c.put_in_line-b.ensures.out_after))
@@ -30,4 +30,4 @@ returns c =
     let r = made c.args.out.now (refused_in c.args.refusal c.args.place c.args.line) (refused-in-fits c.args.refusal c.args.place c.args.line (length c.args.out.now) room)
     (two c.args.out.now 0 ((refused_at c.args.refusal c.args.place) ++ (in_line c.args.line)) (saying (words_of c.args.refusal))
     (two c.args.out.now 0 (refused_at c.args.refusal c.args.place) (in_line c.args.line) (c.put_place-a.ensures.value, c.put_place-a.ensures.out_after) (c.put_in_line-b.ensures.value, c.put_in_line-b.ensures.out_after))
-    (c.put_refusal.ensures.value, c.put_refusal.ensures.out_after)) in record { value = r.0; out_after = r.1.0; has_first = r.1.1 }
+    (c.put_saying.ensures.value, c.put_saying.ensures.out_after)) in record { value = r.0; out_after = r.1.0; has_first = r.1.1 }

@@ -1,39 +1,46 @@
-use mathlib.Core.Path.{refl, sym}
-use mathlib.Core.Bool.{true≢false}
+use Prim.Native.Nat.{◌<◌}
+use mathlib.Core.Path.{◌≡◌}
 use native.Mathlib.Omega.{arith}
+use lib.ListN.{length}
+use Rattle.std.proofs.Common.{rules}
+use Rattle.text_lines.specs.Lines.{line_feed}
+use Rattle.text_lines.proofs.Marks.{after-shorter}
 use Rattle.text_reader.proofs.Turns.{row-past, row-found, one_line-more, no_row, no_line}
-use borrow.Author.Rules.{rules}
 use Rattle.text_reader.proofs.next_row.Goals as goal
+use Rattle.text_reader.proofs.next_row.Goals.{After-split}
 
-pub loop-at-init : goal.loop-at-init
-loop-at-init c = (search rules, search rules, search rules, search rules, refl, refl)
+-- What follows a line is shorter.
+shorter : (c : After-split) → (0 < length c.loop-rest.rest.now) × (length c.split.result.1.now < length c.loop-rest.rest.now)
+shorter c =
+    let some : 0 < length c.loop-rest.rest.now = search rules in
+    (some, rw c.split.ensures.after (after-shorter line_feed c.loop-rest.rest.now some))
 
-pub overflow_add-result : goal.overflow_add-result
-overflow_add-result c = let l = c.line_at-here.ensures.length_in_bounds in search rules
-
-pub returns-then-here : goal.returns-then-here
-returns-then-here c =
-    let inv = c.loop-at.invariant in
-    let on = c.line_at-here.ensures.from_lt_next c.loop-at-test.true in
-    record { text_value = (λ z. row-found _ _ c.loop-at-test.true c.line_at-here.result.next c.line_at-here.ensures.text_value_2 _ c.line_at-here.ensures.says_value c.if-here.true _ c.line_at-here.ensures.text_value inv.4); text_value_2 = (λ z. absurd (true≢false z)); from_le_to = (omega arith, c.line_at-here.ensures.length_in_bounds, c.line_at-here.ensures.next_in_bounds, omega (arith, inv.2, on)); start_lt_next = (λ z. (omega (arith, inv.0, on), omega (arith, inv.2, on))) }
-
-pub loop-at-smaller : goal.loop-at-smaller
-loop-at-smaller c = omega (arith, c.line_at-here.ensures.from_lt_next c.loop-at-test.true)
-
-pub loop-at-preserved : goal.loop-at-preserved
-loop-at-preserved c =
-    let inv = c.loop-at.invariant in
-    let on = c.line_at-here.ensures.from_lt_next c.loop-at-test.true in (
-      omega (arith, inv.0, on),
-      c.line_at-here.ensures.next_in_bounds,
-      omega (arith, inv.2, on),
-      inv.3,
-      row-past _ _ c.loop-at-test.true c.line_at-here.result.next c.line_at-here.ensures.text_value_2 _ c.line_at-here.ensures.says_value c.if-here.false inv.4,
-      one_line-more _ _ c.loop-at-test.true c.line_at-here.result.next c.line_at-here.ensures.text_value_2 _ inv.5,
+pub returns-then-says_any : goal.returns-then-says_any
+returns-then-says_any c =
+    let inv = c.loop-rest.invariant in
+    let less = shorter (goal.at.returns-then-says_any c).After-split in (
+      row-found c.loop-rest.rest.now less.0 c.split.ensures.before c.split.ensures.after c.loop-rest.number c.said_in.ensures.line_value c.says_any.ensures c.if-says_any.true inv.rows,
+      omega (arith, less.1),
+      omega (arith, less.1),
     )
+
+pub loop-rest-smaller : goal.loop-rest-smaller
+loop-rest-smaller c = (shorter (goal.at.loop-rest-smaller c).After-split).1
+
+pub loop-rest-preserved : goal.loop-rest-preserved
+loop-rest-preserved c =
+    let inv = c.loop-rest.invariant in
+    let less = shorter (goal.at.loop-rest-preserved c).After-split in
+    record {
+      few = inv.few;
+      within = omega (arith, less.1);
+      shorter = omega (arith, less.1);
+      rows = row-past c.loop-rest.rest.now less.0 c.split.ensures.before c.split.ensures.after c.loop-rest.number c.said_in.ensures.line_value c.says_any.ensures c.if-says_any.false inv.rows;
+      lines = one_line-more c.loop-rest.rest.now less.0 c.split.ensures.before c.split.ensures.after c.loop-rest.number inv.lines;
+    }
 
 pub returns : goal.returns
 returns c =
-    let inv = c.loop-at.invariant in
-    let over = c.loop-at-test.false in
-    record { text_value = (λ z. absurd (true≢false (sym z))); text_value_2 = (λ z. (no_row _ _ over _ inv.4, no_line _ _ over _ inv.5)); from_le_to = (omega arith, inv.1, inv.1, inv.2); start_lt_next = (λ z. absurd (true≢false (sym z))) }
+    let inv = c.loop-rest.invariant in
+    let none : length c.loop-rest.rest.now ≡ 0 = search rules in
+    (no_row c.loop-rest.rest.now none c.loop-rest.number inv.rows, no_line c.loop-rest.rest.now none c.loop-rest.number inv.lines)

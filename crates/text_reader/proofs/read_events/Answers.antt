@@ -1,78 +1,59 @@
-use Prim.Native.Nat.{◌<◌}
-use mathlib.Core.Path.{refl}
+use mathlib.Core.Path.{◌≡◌, refl, ◌∙◌, ap}
 use native.Mathlib.Omega.{arith}
-use borrow.Author.Tests.{not-true, not-false}
-use lib.ListN.{length, drop}
+use mathlib.Core.List.{map}
+use lib.ListN.{take}
+use lib.Seq.{take-length}
+use Rattle.std.proofs.Common.{Ok, Err, ◌<◌, length-set}
+use Rattle.record.specs.Record.{most_events}
+use Rattle.std.proofs.lemmas.Grind.{common_steps}
+use Rattle.text_reader.specs.Answers.{bad, event_by, why_number}
 use Rattle.text_lines.specs.Lines.{lines_in}
 use Rattle.text_lines.specs.Rows.{Row, rows_from}
-use Rattle.text_reader.specs.Reading.{head_in, value_in}
-use Rattle.text_reader.proofs.Turns.{rows-turn, count_turn, stored-turn, rows_end, fault-many, fault-event, fault-short, fault-turn, fault-none, head-is, value-is}
-use borrow.Author.Rules.{rules}
+use Rattle.text_reader.specs.Reading.{head_in, value_in, numbers_of}
+use Rattle.text_reader.proofs.Turns.{rows-turn, count_turn, stored-turn, rows_end, fault-many, fault-bad, good-turn, fault-none}
 use Rattle.text_reader.proofs.read_events.Goals as goal
-use Rattle.text_reader.proofs.read_events.Goals.{Else-not-event-2}
 
-pub loop-row-init : goal.loop-row-init
-loop-row-init c = (search rules, search rules, search rules, search rules, search rules, refl, refl, refl, refl, refl, search rules, search rules, search rules, search rules, search rules, search rules)
+pub returns-then-n-ge-MOST_EVENTS-clause-fault_value : goal.returns-then-n-ge-MOST_EVENTS-clause-fault_value
+returns-then-n-ge-MOST_EVENTS-clause-fault_value c =
+    fault-many c.loop-row.n (record { number = c.in-Ok.row.number; said = c.in-Ok.row.said.now }) c.in-Ok.ensures.0 c.if-n-ge-MOST_EVENTS.true c.loop-row.invariant.fault
 
-pub loop-row-smaller : goal.loop-row-smaller
-loop-row-smaller c =
-    omega (arith, (c.next_row-row.ensures.start_lt_next (not-false c.next_row-row.result.found c.if-not-row.false)).0)
-
--- There is a place for one more.
-room-there : (c : Else-not-event-2)
-    → let at-loop = c.before.before.before.before.before.before.before.before.before.before in
-    (at-loop.loop-row.n < length at-loop.loop-row.heads) × (at-loop.loop-row.n < length at-loop.loop-row.values) × (at-loop.loop-row.n < length at-loop.loop-row.numbers)
-room-there c = (search rules, search rules, search rules)
+pub returns-in_err-event-clause-fault_value : goal.returns-in_err-event-clause-fault_value
+returns-in_err-event-clause-fault_value c =
+    let b : bad (why_number c.in_err-event.field-0.0.why) ≡ event_by c.event_in.result = grind (arith, common_steps) in
+    let l : c.in_err-event.field-0.0.line ≡ c.in-Ok.row.number = grind (arith, common_steps) in
+    let r : c.from_residual.result ≡ Err c.in_err-event.field-0.0 = grind (arith, common_steps) in
+    let row : Row = record { number = c.in-Ok.row.number; said = c.in-Ok.row.said.now } in
+    rw (r, l) (fault-bad c.loop-row.n row c.in-Ok.ensures.0 c.if-n-ge-MOST_EVENTS.false (b ∙ c.event_in.ensures) c.loop-row.invariant.fault)
 
 pub loop-row-preserved : goal.loop-row-preserved
 loop-row-preserved c =
     let inv = c.loop-row.invariant in
     let n = c.loop-row.n in
-    let args = c.args in
-    let rows = rows_from args.line (lines_in (drop args.start args.text.now)) in
-    let q = c.next_row-row.ensures.text_value (not-false c.next_row-row.result.found c.if-not-row.false) in
-    let on = c.next_row-row.ensures.start_lt_next (not-false c.next_row-row.result.found c.if-not-row.false) in
-    let h = c.if-n-ge-MOST_EVENTS.false in
-    let good = c.if-not-event.false in
-    let place = room-there c in (
-      c.next_row-row.ensures.from_le_to.2,
-      omega (arith, on.1),
-      inv.2,
-      omega arith,
-      count_turn rows n _ inv.5 q,
-      rows-turn rows n _ inv.5 q,
-      fault-turn n _ q h c.event_in-event.ensures good c.if-not-event-2.false inv.6,
-      stored-turn rows n _ inv.5 q head_in _ _ (head-is n _ q h c.event_in-event.ensures good) place.0 inv.7,
-      stored-turn rows n _ inv.5 q value_in _ _ (value-is n _ q h c.event_in-event.ensures good) place.1 inv.8,
-      stored-turn rows n _ inv.5 q (λ (r : Row). r.number) _ _ refl place.2 inv.9,
-      search rules,
-      search rules,
-      search rules,
-      search rules,
-      search rules,
-      search rules,
-    )
+    let rows = rows_from c.args.line (lines_in c.args.text.now) in
+    let row : Row = record { number = c.in-Ok.row.number; said = c.in-Ok.row.said.now } in
+    let e : c.event_in.result ≡ Ok c.in_ok-event.event = grind (arith, common_steps) in
+    let g = good-turn n row c.in-Ok.ensures.0 c.if-n-ge-MOST_EVENTS.false (rw e at c.event_in.ensures) in
+    let room : n < most_events = c.if-n-ge-MOST_EVENTS.false in
+    record {
+      within = omega (arith, c.in-Ok.ensures.1);
+      few = omega arith;
+      counted = count_turn rows n row inv.later c.in-Ok.ensures.0;
+      later = rows-turn rows n row inv.later c.in-Ok.ensures.0;
+      fault = inv.fault ∙ g.0;
+      heads = stored-turn rows n row inv.later c.in-Ok.ensures.0 head_in _ _ g.1 (omega arith) inv.heads;
+      values = stored-turn rows n row inv.later c.in-Ok.ensures.0 value_in _ _ g.2 (omega arith) inv.values;
+      numbers = stored-turn rows n row inv.later c.in-Ok.ensures.0 (λ (r : Row). r.number) _ _ refl (omega arith) inv.numbers;
+      heads_room = simp length-set inv.heads_room;
+      values_room = simp length-set inv.values_room;
+      numbers_room = simp length-set inv.numbers_room;
+    }
 
-pub returns-then-not-row : goal.returns-then-not-row
-returns-then-not-row c =
-    let inv = c.loop-row.invariant in
-    let none = (c.next_row-row.ensures.text_value_2 (not-true c.next_row-row.result.found c.if-not-row.true)).0 in
-    record { fault_value = fault-none _ none inv.6; events_le_most_events = inv.3; events_value = (λ z. rows_end _ _ inv.4 inv.5 none); heads_after = inv.7; values_after = inv.8; numbers_after = inv.9 }
+pub returns-clause-fault_value : goal.returns-clause-fault_value
+returns-clause-fault_value c = fault-none c.loop-row.n c.in_default.ensures.0 c.loop-row.invariant.fault
 
-pub returns-then-n-ge-MOST_EVENTS : goal.returns-then-n-ge-MOST_EVENTS
-returns-then-n-ge-MOST_EVENTS c =
+pub returns-clause-events : goal.returns-clause-events
+returns-clause-events c =
     let inv = c.loop-row.invariant in
-    let q = c.next_row-row.ensures.text_value (not-false c.next_row-row.result.found c.if-not-row.false) in
-    record { fault_value = fault-many _ _ q c.if-n-ge-MOST_EVENTS.true inv.6; events_le_most_events = inv.3; events_value = (λ z. absurd (omega arith)); heads_after = inv.7; values_after = inv.8; numbers_after = inv.9 }
-
-pub returns-then-not-event : goal.returns-then-not-event
-returns-then-not-event c =
-    let inv = c.loop-row.invariant in
-    let q = c.next_row-row.ensures.text_value (not-false c.next_row-row.result.found c.if-not-row.false) in
-    record { fault_value = fault-event _ _ q c.if-n-ge-MOST_EVENTS.false c.event_in-event.ensures c.if-not-event.true inv.6; events_le_most_events = inv.3; events_value = (λ z. absurd (omega arith)); heads_after = inv.7; values_after = inv.8; numbers_after = inv.9 }
-
-pub returns-then-not-event-2 : goal.returns-then-not-event-2
-returns-then-not-event-2 c =
-    let inv = c.loop-row.invariant in
-    let q = c.next_row-row.ensures.text_value (not-false c.next_row-row.result.found c.if-not-row.false) in
-    record { fault_value = fault-short _ _ q c.if-n-ge-MOST_EVENTS.false c.event_in-event.ensures c.if-not-event.false c.if-not-event-2.true inv.6; events_le_most_events = inv.3; events_value = (λ z. absurd (omega arith)); heads_after = inv.7; values_after = inv.8; numbers_after = inv.9 }
+    let rows = rows_from c.args.line (lines_in c.args.text.now) in
+    let all : take c.loop-row.n rows ≡ rows = rw (rows_end rows c.loop-row.n inv.counted inv.later c.in_default.ensures.0) (take-length rows) in
+    (inv.few, inv.heads ∙ ap (map head_in) all, inv.values ∙ ap (map value_in) all, inv.numbers ∙ ap numbers_of all)

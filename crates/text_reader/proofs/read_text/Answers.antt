@@ -1,44 +1,45 @@
-use mathlib.Core.Path.{◌∙◌, ap}
+use mathlib.Core.Path.{◌≡◌, ◌∙◌}
+use mathlib.Core.Bool.{true, false}
 use native.Mathlib.Omega.{arith}
-use borrow.Author.Tests.{not-true, not-false}
-use Rattle.text_reader.specs.declared.Fault.{Fault}
-use Rattle.text_reader.specs.Reading.{head_in, value_in}
-use Rattle.text_reader.proofs.Made.{long-text, no_rows, sources-bad, sources-good, sources-read, first-line, part-read, lines-read}
-use borrow.Author.Rules.{rules}
+use Rattle.std.proofs.Common.{◌+◌, [], length, Ok}
+use Rattle.std.proofs.lemmas.Grind.{common_steps}
+use Rattle.text_lines.specs.Lines.{lines_in}
+use Rattle.text_lines.specs.Numbers.{found_by}
+use Rattle.text_lines.specs.Rows.{Row, rows_of}
+use Rattle.text_reader.specs.Answers.{fault_by}
+use Rattle.text_reader.specs.Reading.{not_sources}
+use Rattle.text_reader.proofs.Made.{long-text, no_rows, sources-bad, sources-good}
 use Rattle.text_reader.proofs.read_text.Goals as goal
 
-pub returns-then-text-gt-TEXT_SIZE : goal.returns-then-text-gt-TEXT_SIZE
-returns-then-text-gt-TEXT_SIZE c =
-    record { fault_value = c.faulty.ensures.0 ∙ long-text _ c.if-text-gt-TEXT_SIZE.true; events_le_most_events = omega (arith, c.faulty.ensures.1); sources_value = (λ z. absurd (omega (arith, z, ap (λ (f : Fault). f.why) c.faulty.ensures.0))) }
+pub returns-then-text-gt-TEXT_SIZE-clause-fault_value : goal.returns-then-text-gt-TEXT_SIZE-clause-fault_value
+returns-then-text-gt-TEXT_SIZE-clause-fault_value c = long-text _ c.if-text-gt-TEXT_SIZE.true
 
-pub returns-then-not-row : goal.returns-then-not-row
-returns-then-not-row c =
-    let none = c.next_row-row.ensures.text_value_2 (not-true c.next_row-row.result.found c.if-not-row.true) in
-    record { fault_value = c.faulty-then-not-row.ensures.0 ∙ no_rows _ c.if-text-gt-TEXT_SIZE.false none.0 none.1; events_le_most_events = omega (arith, c.faulty-then-not-row.ensures.1); sources_value = (λ z. absurd (omega (arith, z, ap (λ (f : Fault). f.why) c.faulty-then-not-row.ensures.0))) }
+pub returns-in_err-row-clause-fault_value : goal.returns-in_err-row-clause-fault_value
+returns-in_err-row-clause-fault_value c =
+    let none : rows_of c.args.text.now ≡ [] = grind (arith, common_steps) in
+    let past : c.in_err-row.field-0.0.line ≡ 1 + length (lines_in c.args.text.now) = grind (arith, common_steps) in
+    let f : fault_by c.from_residual.result ≡ not_sources c.in_err-row.field-0.0.line = grind (arith, common_steps) in
+    f ∙ no_rows c.args.text.now c.if-text-gt-TEXT_SIZE.false none past
 
-pub returns-then-not-first : goal.returns-then-not-first
-returns-then-not-first c =
-    let q = c.next_row-row.ensures.text_value (not-false c.next_row-row.result.found c.if-not-row.false) in
-    record { fault_value = c.faulty-then-not-first.ensures.0 ∙ sources-bad _ c.if-text-gt-TEXT_SIZE.false _ q c.decimal_in-first.ensures c.if-not-first.true; events_le_most_events = omega (arith, c.faulty-then-not-first.ensures.1); sources_value = (λ z. absurd (omega (arith, z, ap (λ (f : Fault). f.why) c.faulty-then-not-first.ensures.0))) }
+pub returns-in_err-sources-clause-fault_value : goal.returns-in_err-sources-clause-fault_value
+returns-in_err-sources-clause-fault_value c =
+    let row : Row = record { number = c.in_ok-row.row.number; said = c.in_ok-row.row.said.now } in
+    let there : c.next_row.result ≡ Ok c.in_ok-row.row = grind (arith, common_steps) in
+    let none : (found_by c.decimal_in.result).ok ≡ false = grind (arith, common_steps) in
+    let f : fault_by c.from_residual-in_err-sources.result ≡ not_sources row.number = grind (arith, common_steps) in
+    f ∙ sources-bad c.args.text.now c.if-text-gt-TEXT_SIZE.false row (rw there at c.next_row.ensures).0 c.decimal_in.ensures none
 
-pub read_events-lines-requires : goal.read_events-lines-requires
-read_events-lines-requires c =
-    let on = c.next_row-row.ensures.start_lt_next (not-false c.next_row-row.result.found c.if-not-row.false) in
-    (search rules, search rules, omega (arith, on.1), search rules, search rules, search rules)
+pub returns-in_err-events-clause-fault_value : goal.returns-in_err-events-clause-fault_value
+returns-in_err-events-clause-fault_value c =
+    let row : Row = record { number = c.in_ok-row.row.number; said = c.in_ok-row.row.said.now } in
+    let there : c.next_row.result ≡ Ok c.in_ok-row.row = grind (arith, common_steps) in
+    let some : (found_by c.decimal_in.result).ok ≡ true = grind (arith, common_steps) in
+    let f : fault_by c.from_residual-in_err-events.result ≡ fault_by c.read_events.result = grind (arith, common_steps) in
+    sources-good c.args.text.now c.if-text-gt-TEXT_SIZE.false row (rw there at c.next_row.ensures).0 c.decimal_in.ensures some (f ∙ c.read_events.ensures.fault_value)
 
-pub returns : goal.returns
-returns c =
-    let short = c.if-text-gt-TEXT_SIZE.false in
-    let q = c.next_row-row.ensures.text_value (not-false c.next_row-row.result.found c.if-not-row.false) in
-    let z = c.if-not-first.false in
-    record {
-      fault_value = sources-good _ short _ q c.decimal_in-first.ensures z c.read_events-lines.ensures.fault_value;
-      events_le_most_events = c.read_events-lines.ensures.events_le_most_events;
-      sources_value = (λ well. (
-        sources-read _ short _ q c.decimal_in-first.ensures z,
-        first-line _ short _ q c.decimal_in-first.ensures z,
-        part-read _ short _ q c.decimal_in-first.ensures z head_in _ (c.read_events-lines.ensures.events_value well) c.read_events-lines.ensures.heads_after,
-        part-read _ short _ q c.decimal_in-first.ensures z value_in _ (c.read_events-lines.ensures.events_value well) c.read_events-lines.ensures.values_after,
-        lines-read _ short _ q c.decimal_in-first.ensures z _ (c.read_events-lines.ensures.events_value well) c.read_events-lines.ensures.numbers_after,
-      ));
-    }
+pub returns-clause-fault_value : goal.returns-clause-fault_value
+returns-clause-fault_value c =
+    let row : Row = record { number = c.in_ok-row.row.number; said = c.in_ok-row.row.said.now } in
+    let there : c.next_row.result ≡ Ok c.in_ok-row.row = grind (arith, common_steps) in
+    let some : (found_by c.decimal_in.result).ok ≡ true = grind (arith, common_steps) in
+    sources-good c.args.text.now c.if-text-gt-TEXT_SIZE.false row (rw there at c.next_row.ensures).0 c.decimal_in.ensures some c.in_ok-events.ensures.fault_value
