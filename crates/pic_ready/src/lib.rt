@@ -14,21 +14,18 @@ use pic_source::sources::waiting;
 pub fn ready_sets(c: Controller) -> [[u32; 8]; 16]
     ensures { result ≡ fresh_of c }
 {
-    let v = c.scalars;
-    let n = c.sources as usize;
     let mut sets = [[0u32; 8]; 16];
-    let mut s: usize = 0;
-    while s < n {
-        s += 1;
-        let rank = to_rank(v.priord, Field(c.field[s]));
+    for s in 1..=c.sources {
+        let i = s as usize;
+        let rank = to_rank(c.scalars.priord, Field(c.field[i]));
         let ready = waiting(
-            c.enable[s],
-            c.trigger[s],
-            c.polarity[s],
-            c.line[s],
-            c.latch[s],
+            c.enable[i],
+            c.trigger[i],
+            c.polarity[i],
+            c.line[i],
+            c.latch[i],
         );
-        update(&mut sets, s as u8, rank, false, rank, ready);
+        update(&mut sets, s, rank, false, rank, ready);
     }
     sets
 }
