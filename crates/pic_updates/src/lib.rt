@@ -29,7 +29,7 @@ fn ready(c: Controller, s: u8) -> bool
         )
 }
 
-// What the type of sets says of their list. A reference does not tell; passed by value, they do.
+// What the type of sets says of their list. A reference tells no more than that there are sixteen; passed by value, they tell the rest.
 fn sixteen(sets: [[u32; 8]; 16])
     ensures { Shaped 16 sets }
 {}
@@ -40,10 +40,8 @@ fn follow_source(c: Controller, d: Controller, s: u8, sets: &mut [[u32; 8]; 16])
 {
     sixteen(*sets);
     let i = s as usize;
-    let u = c.scalars;
-    let v = d.scalars;
-    let old = to_rank(u.priord, Field(c.field[i]));
-    let new = to_rank(v.priord, Field(d.field[i]));
+    let old = to_rank(c.scalars.priord, Field(c.field[i]));
+    let new = to_rank(d.scalars.priord, Field(d.field[i]));
     update(sets, s, old, ready(c, s), new, ready(d, s));
 }
 
@@ -52,10 +50,8 @@ fn follow_word(c: Controller, d: Controller, x: u8, sets: &mut [[u32; 8]; 16])
     ensures { sets.new ≡ moved_word c d (x % 8) sets.old }
 {
     sixteen(*sets);
-    let mut y: u8 = 0;
-    while y < 32 {
+    for y in 0..32 {
         follow_source(c, d, 32 * (x % 8) + y, sets);
-        y += 1;
     }
 }
 
