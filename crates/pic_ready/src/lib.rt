@@ -2,13 +2,29 @@
 #![tactic(auto)]
 
 ghost use Rattle.std.specs.Prelude.{◌≡◌};
-ghost use Rattle.pic_ready.specs.Ready.{fresh_of};
+ghost use Rattle.pic_ready.specs.Ready.{ready_at, fresh_of};
 
 use pic::Controller;
 use pic_sets::flips::update;
 use pic_source::Field;
 use pic_source::ranks::to_rank;
-use pic_source::sources::waiting;
+use pic_source::sources::{is_source, waiting};
+
+// Whether s is a source that is enabled and pending.
+#[tactic(auto, unfolding(crate::specs::Ready::ready_at))]
+pub fn ready(c: &Controller, s: u8) -> bool
+    ensures { result ≡ ready_at c.now s }
+{
+    let i = s as usize;
+    is_source(c.sources, s as u32)
+        & waiting(
+            c.enable[i],
+            c.trigger[i],
+            c.polarity[i],
+            c.line[i],
+            c.latch[i],
+        )
+}
 
 // Each source enters the set of its rank, if it is enabled and pending.
 pub fn ready_sets(c: Controller) -> [[u32; 8]; 16]
@@ -16,16 +32,8 @@ pub fn ready_sets(c: Controller) -> [[u32; 8]; 16]
 {
     let mut sets = [[0u32; 8]; 16];
     for s in 1..=c.sources {
-        let i = s as usize;
-        let rank = to_rank(c.scalars.priord, Field(c.field[i]));
-        let ready = waiting(
-            c.enable[i],
-            c.trigger[i],
-            c.polarity[i],
-            c.line[i],
-            c.latch[i],
-        );
-        update(&mut sets, s, rank, false, rank, ready);
+        let rank = to_rank(c.scalars.priord, Field(c.field[s as usize]));
+        update(&mut sets, s, rank, false, rank, ready(&c, s));
     }
     sets
 }
