@@ -5,7 +5,7 @@ use mathlib.Core.Bool.{Bool, true, false, cond, ◌&&◌}
 use mathlib.Core.Logic.{inl, inr, ⊎_elim}
 use native.Mathlib.Omega.{arith}
 use lib.Dec.{leb}
-use borrow.Author.Tests.{lt-ltb, le-ltb, le-leb}
+use borrow.Author.Tests.{lt-ltb, le-ltb}
 use Rattle.pic_source.specs.declared.Rank.{Rank}
 use Rattle.pic_source.specs.Ranks.{rank}
 use Rattle.pic_source.proofs.Bools.{le-cases}
@@ -64,12 +64,3 @@ pub enters-waiting : (waits : Bool) (s : ℕ) (r : Rank)
 unfolding entry_of
 enters-waiting true s r = refl
 enters-waiting false s r = refl
-
--- The entering rank is 0, or another.
-pub enters_none : (s r : ℕ) → r ≡ 0 → no_winner ≡ entry_of (leb 1 r) s (rank r)
-unfolding entry_of
-enters_none s r e = rw e
-
-pub enters-ranked : (s r : ℕ) → (r ≡ 0 → ⊥) → record { source = s; rank = rank r } ≡ entry_of (leb 1 r) s (rank r)
-unfolding entry_of
-enters-ranked s r e = rw (le-leb 1 r (omega (arith, e)))

@@ -1,29 +1,19 @@
 // The balanced tree of comparators, over an array of entering ranks: that of an eligible source is its rank, that of any other source 0.
 
 ghost use Rattle.std.specs.Prelude.{◌≡◌, ◌+◌, ◌≤◌};
-ghost use Rattle.pic_comparator.specs.Comparator.{no_winner};
 ghost use Rattle.pic_comparator.specs.Trees.{entered_by, passing, halves_of, balanced_of};
 
 use crate::{Winner, better};
 use pic_source::Rank;
 
-// No source.
-fn none() -> Winner
-    ensures { result ≡ no_winner }
-{
-    Winner {
-        source: 0,
-        rank: Rank(0),
-    }
-}
-
 // What source s enters as.
+#[tactic(auto, unfolding(crate::specs::Comparator::entry_of))]
 fn entry(ranks: &[u8; 256], s: u8) -> Winner
     ensures { result ≡ entered_by ranks.now s }
 {
     let rank = ranks[s as usize];
     if rank == 0 {
-        none()
+        Winner::none()
     } else {
         Winner {
             source: s,
@@ -38,7 +28,7 @@ fn halves(ranks: &[u8; 256], s: u8, n: u8) -> Winner
     ensures { result ≡ passing (entered_by ranks.now) (halves_of s n) }
 {
     if n == 0 {
-        none()
+        Winner::none()
     } else if n == 1 {
         entry(ranks, s)
     } else {

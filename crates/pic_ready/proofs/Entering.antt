@@ -5,16 +5,15 @@ use mathlib.Core.Bool.{Bool, true, false, ◌&&◌}
 use mathlib.Core.List.{List}
 use mathlib.Core.Logic.{◌⊎◌, inl, inr}
 use native.Mathlib.Omega.{arith}
-use lib.Dec.{eqb, leb}
+use lib.Dec.{leb}
 use lib.ListN.{replicate}
 use borrow.Author.Tests.{eq-eqb, ne_eqb, le-leb, lt-leb}
 use Rattle.pic_source.specs.declared.Rank.{Rank}
-use Rattle.pic_source.specs.Sources.{is_waiting}
 use Rattle.pic_source.proofs.Bools.{eq-cases, le-cases}
 use Rattle.pic_bits.specs.Bits.{join_of, word_to}
 use Rattle.pic_bits.specs.Tables.{table_of}
 use Rattle.pic.specs.declared.Controller.{Controller}
-use Rattle.pic.specs.Sources.{rank_at, enable_at, trigger_at, polarity_at, line_at, latch_at}
+use Rattle.pic.specs.Sources.{rank_at}
 use Rattle.pic_sets.specs.Sets.{updated_of}
 use Rattle.pic_sets.specs.Laws.{differs, is_in}
 use Rattle.pic_sets.proofs.Members.{update-shape, update-member}
@@ -31,19 +30,11 @@ module _ (c : Controller) where
   abbrev pub entered : ℕ → ℕ → ℕ → Bool
   entered k r t = leb t k && belongs c r t
 
-  abbrev pub waits : ℕ → Bool
-  waits s = is_waiting (enable_at c s) (trigger_at c s) (polarity_at c s) (line_at c s) (latch_at c s)
-
   -- What one turn does to the bit of t in set r.
-  turned : (k s : ℕ) → s ≡ suc k → s ≤ c.sources → (r t : ℕ)
-      → differs (differs (entered k r t) (false && is_in s (rank_at c s).0 t r)) (waits s && is_in s (rank_at c s).0 t r) ≡ entered s r t
-  unfolding ready_at
-  turned k s e l r t = go (eq-cases t s)
+  turned : (k s : ℕ) → s ≡ suc k → (r t : ℕ)
+      → differs (differs (entered k r t) (false && is_in s (rank_at c s).0 t r)) (ready_at c s && is_in s (rank_at c s).0 t r) ≡ entered s r t
+  turned k s e r t = go (eq-cases t s)
     where
-      new : (w q : Bool) → (w && q) ≡ ((true && w) && q)
-      new true q = refl
-      new false q = refl
-
       old : (a w : Bool) → differs (differs a false) (w && false) ≡ a
       old true true = refl
       old true false = refl
@@ -55,23 +46,21 @@ module _ (c : Controller) where
       order n (inr a) = lt-leb t k a ∙ sym (lt-leb t s (omega (arith, a, e, n)))
 
       go : (t ≡ s) ⊎ (t ≡ s → ⊥)
-          → differs (differs (entered k r t) (false && is_in s (rank_at c s).0 t r)) (waits s && is_in s (rank_at c s).0 t r) ≡ entered s r t
-      go (inl z) =
-          rw (z, lt-leb s k (omega (arith, e)), le-leb s s (omega arith), eq-eqb s s refl, le-leb 1 s (omega (arith, e)), le-leb s c.sources l)
-          (new (waits s) (eqb r (rank_at c s).0))
-      go (inr n) = rw (ne_eqb t s n) (old (entered k r t) (waits s) ∙ ap (λ (b : Bool). b && belongs c r t) (order n (le-cases t k)))
+          → differs (differs (entered k r t) (false && is_in s (rank_at c s).0 t r)) (ready_at c s && is_in s (rank_at c s).0 t r) ≡ entered s r t
+      go (inl z) = rw (z, lt-leb s k (omega (arith, e)), le-leb s s (omega arith), eq-eqb s s refl)
+      go (inr n) = rw (ne_eqb t s n) (old (entered k r t) (ready_at c s) ∙ ap (λ (b : Bool). b && belongs c r t) (order n (le-cases t k)))
 
-  pub entered-turn : (k s : ℕ) → s ≡ suc k → s ≤ c.sources → updated_of (sets_by (entered k)) s (rank_at c s) false (rank_at c s) (waits s) ≡ sets_by (entered s)
-  entered-turn k s e l =
-      sets-are (entered s) _ (update-shape (sets_by (entered k)) s (rank_at c s) false (rank_at c s) (waits s) (by-shaped (entered k)))
-      (λ r t a b. update-member (sets_by (entered k)) (by-shaped (entered k)) s (rank_at c s) false (rank_at c s) (waits s) r t a b
-      ∙ ap (λ (x : Bool). differs (differs x (false && is_in s (rank_at c s).0 t r)) (waits s && is_in s (rank_at c s).0 t r)) (in-sets (entered k) r t a b)
-      ∙ turned k s e l r t)
+  pub entered-turn : (k s : ℕ) → s ≡ suc k → updated_of (sets_by (entered k)) s (rank_at c s) false (rank_at c s) (ready_at c s) ≡ sets_by (entered s)
+  entered-turn k s e =
+      sets-are (entered s) _ (update-shape (sets_by (entered k)) s (rank_at c s) false (rank_at c s) (ready_at c s) (by-shaped (entered k)))
+      (λ r t a b. update-member (sets_by (entered k)) (by-shaped (entered k)) s (rank_at c s) false (rank_at c s) (ready_at c s) r t a b
+      ∙ ap (λ (x : Bool). differs (differs x (false && is_in s (rank_at c s).0 t r)) (ready_at c s && is_in s (rank_at c s).0 t r)) (in-sets (entered k) r t a b)
+      ∙ turned k s e r t)
 
   -- One turn, over plain variables.
-  pub entered-next : (k s : ℕ) {sets next : List (List ℕ)} {old : Rank} {w : Bool} → s ≡ k + 1 → s ≤ c.sources → sets ≡ sets_by (entered k) → old ≡ rank_at c s
-      → w ≡ waits s → next ≡ updated_of sets s old false old w → next ≡ sets_by (entered s)
-  entered-next k s e l hs hr hw hn = rw (hn, hs, hr, hw) (entered-turn k s (omega (arith, e)) l)
+  pub entered-next : (k s : ℕ) {sets next : List (List ℕ)} {old : Rank} {w : Bool} → s ≡ k + 1 → sets ≡ sets_by (entered k) → old ≡ rank_at c s
+      → w ≡ ready_at c s → next ≡ updated_of sets s old false old w → next ≡ sets_by (entered s)
+  entered-next k s e hs hr hw hn = rw (hn, hs, hr, hw) (entered-turn k s (omega (arith, e)))
 
   -- Before the first, no source has entered: all words are 0;
   pub entered-none : replicate 16 (replicate 8 0) ≡ sets_by (entered 0)
@@ -89,8 +78,8 @@ module _ (c : Controller) where
     where
       all : (r s : ℕ) (t : Bool) → leb s c.sources ≡ t → entered c.sources r s ≡ belongs c r s
       all r s true e = rw e
-      all r s false e = rw e (off (leb 1 s))
+      all r s false e = rw e (off (leb 1 s) _ _)
         where
-          off : (t : Bool) → false ≡ ((t && false) && waits s) && eqb r (rank_at c s).0
-          off true = refl
-          off false = refl
+          off : (t w q : Bool) → false ≡ ((t && false) && w) && q
+          off true w q = refl
+          off false w q = refl

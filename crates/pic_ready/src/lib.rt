@@ -2,33 +2,38 @@
 #![tactic(auto)]
 
 ghost use Rattle.std.specs.Prelude.{◌≡◌};
-ghost use Rattle.pic_ready.specs.Ready.{fresh_of};
+ghost use Rattle.pic_ready.specs.Ready.{ready_at, fresh_of};
 
 use pic::Controller;
 use pic_sets::flips::update;
 use pic_source::Field;
 use pic_source::ranks::to_rank;
-use pic_source::sources::waiting;
+use pic_source::sources::{is_source, waiting};
+
+// Whether s is a source that is enabled and pending.
+#[tactic(auto, unfolding(crate::specs::Ready::ready_at))]
+pub fn ready(c: &Controller, s: u8) -> bool
+    ensures { result ≡ ready_at c.now s }
+{
+    let i = s as usize;
+    is_source(c.sources, s as u32)
+        & waiting(
+            c.enable[i],
+            c.trigger[i],
+            c.polarity[i],
+            c.line[i],
+            c.latch[i],
+        )
+}
 
 // Each source enters the set of its rank, if it is enabled and pending.
 pub fn ready_sets(c: Controller) -> [[u32; 8]; 16]
     ensures { result ≡ fresh_of c }
 {
-    let v = c.scalars;
-    let n = c.sources as usize;
     let mut sets = [[0u32; 8]; 16];
-    let mut s: usize = 0;
-    while s < n {
-        s += 1;
-        let rank = to_rank(v.priord, Field(c.field[s]));
-        let ready = waiting(
-            c.enable[s],
-            c.trigger[s],
-            c.polarity[s],
-            c.line[s],
-            c.latch[s],
-        );
-        update(&mut sets, s as u8, rank, false, rank, ready);
+    for s in 1..=c.sources {
+        let rank = to_rank(c.scalars.priord, Field(c.field[s as usize]));
+        update(&mut sets, s, rank, false, rank, ready(&c, s));
     }
     sets
 }

@@ -3,7 +3,6 @@
 ghost use Rattle.std.specs.Prelude.{◌≡◌, ◌%◌};
 ghost use Rattle.pic_sets.specs.Sets.{flipped_if, updated_of, OthersStay, rank_at, flipped_word};
 
-use crate::sixteen;
 use pic_bits::lowest_bit;
 use pic_source::ranks::to_rank;
 use pic_source::{Field, Rank};
@@ -12,13 +11,8 @@ use pic_source::{Field, Rank};
 fn flip(sets: &mut [[u32; 8]; 16], on: bool, rank: Rank, s: u8)
     ensures { sets.new ≡ flipped_if on sets.old rank.0 s }
 {
-    sixteen(*sets);
-    if on {
-        if rank.0 < 16 {
-            let r = rank.0 as usize;
-            let x = (s / 32) as usize;
-            sets[r][x] = sets[r][x] ^ (1 << ((s % 32) as u32));
-        }
+    if on && rank.0 < 16 {
+        sets[rank.0 as usize][(s / 32) as usize] ^= 1 << (s % 32);
     }
 }
 
@@ -40,6 +34,6 @@ pub fn flip_word(sets: &mut [[u32; 8]; 16], field: &[u8; 256], priord: u8, x: u8
         let y = lowest_bit(left);
         let s = 32 * (x % 8) + (y as u8);
         flip(sets, true, to_rank(priord, Field(field[s as usize])), s);
-        left = left - (1 << y);
+        left -= 1 << y;
     }
 }

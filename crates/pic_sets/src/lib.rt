@@ -2,12 +2,5 @@
 // Bit y of word x of a set is source 32 x + y.
 #![tactic(auto)]
 
-ghost use Rattle.pic_bits.specs.Tables.{Shaped};
-
 pub mod flips;
 pub mod switches;
-
-// What the type of sets says of their list. A reference does not tell; passed by value, they do.
-fn sixteen(sets: [[u32; 8]; 16])
-    ensures { Shaped 16 sets }
-{}

@@ -50,13 +50,6 @@ module _ (on : ℕ → Bool) where
 abbrev pub Empty : List ℕ → ℕ → Type 0
 Empty set x = (k : ℕ) → k < x → get_or set k 0 ≡ 0
 
-pub empty-more : (set : List ℕ) (x : ℕ) → Empty set x → get_or set x 0 ≡ 0 → Empty set (x + 1)
-empty-more set x h e k l = go (eq-cases k x)
-  where
-    go : (k ≡ x) ⊎ (k ≡ x → ⊥) → get_or set k 0 ≡ 0
-    go (inl p) = ap (λ (i : ℕ). get_or set i 0) p ∙ e
-    go (inr n) = h k (omega (arith, n))
-
 -- A number of a word that is 0 is in no set.
 pub out-of-zero : (set : List ℕ) (s : ℕ) → get_or set (s / 32) 0 ≡ 0 → is_member set s ≡ false
 out-of-zero set s e = let z : member_of set s ≡ 0 = ap (λ (w : ℕ). bit_of w (s % 32)) e ∙ none-of-zero (s % 32) in rw z

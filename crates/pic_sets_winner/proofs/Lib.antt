@@ -1,4 +1,3 @@
 -- Laws of the winner from the ready sets.
 pub mod Firsts
-pub mod Empties
 pub mod Winners

@@ -1,5 +1,5 @@
 -- Document 02, No. 9: the winner from the ready sets. A set has a bit for each number 0 to 255; set r is that of rank r.
-use Rattle.std.specs.Prelude.{ℕ, zero, suc, ◌≤◌, ◌<◌, ◌≡◌, ◌⊎◌, Bool, true, false, cond, List, [], eqb, get_or}
+use Rattle.std.specs.Prelude.{ℕ, zero, suc, ◌≤◌, ◌<◌, ◌≡◌, ◌⊎◌, Bool, true, false, cond, List, [], Option, None, Some, eqb, get_or}
 use Rattle.pic_bits.specs.Bits.{is_member}
 use Rattle.pic_source.specs.Ranks.{rank}
 use Rattle.pic_comparator.specs.declared.Winner.{Winner}
@@ -13,6 +13,11 @@ lowest_from on (suc d) s = cond (on s) s (lowest_from on d (suc s))
 -- The lowest number of a set, 256 where it has none.
 abbrev pub lowest_of : List ℕ → ℕ
 lowest_of set = lowest_from (is_member set) 256 0
+
+-- The same of an answer: the number, or 256 for none.
+abbrev pub number_or_256 : Option ℕ → ℕ
+number_or_256 None = 256
+number_or_256 (Some s) = s
 
 abbrev pub is_empty : List ℕ → Bool
 is_empty set = eqb (lowest_of set) 256

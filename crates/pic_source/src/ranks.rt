@@ -16,6 +16,7 @@ fn closed_form(priord: u8, n: u8) -> i32
 }
 
 // 0 for priord 0, else 1. It is worked out, and not asked: of a question the compiler makes a branch, and of the winner's loop two.
+#[tactic(auto, unfolding(crate::specs::ClosedForm::order_of))]
 fn order(priord: u8) -> u8
     ensures { result ≡ order_of priord }
 {

@@ -17,6 +17,8 @@ pub fn latch_after(line: u8, polarity: u8, latch: u8) -> u8
     if line != polarity { 1 } else { latch }
 }
 
+// Whether a source is pending.
+#[tactic(auto, unfolding(crate::specs::Sources::is_pending))]
 pub fn pending(trigger: u8, polarity: u8, line: u8, latch: u8) -> bool
     ensures { result ≡ is_pending trigger polarity line latch }
 {

@@ -16,24 +16,15 @@ use pic_source::sources::waiting;
 fn entering_rank(waits: bool, priord: u8, field: Field) -> u8
     ensures { result ≡ entering_rank waits priord field }
 {
-    if waits {
-        let rank = to_rank(priord, field);
-        rank.0
-    } else {
-        0
-    }
+    if waits { to_rank(priord, field).0 } else { 0 }
 }
 
 // The entering ranks of the sources, by number.
 fn entering_ranks(c: Controller) -> [u8; 256]
     ensures { Entering c c.sources result }
 {
-    let n = c.sources as usize;
-    let v = c.scalars;
     let mut ranks = [0u8; 256];
-    let mut s: usize = 0;
-    while s < n {
-        s += 1;
+    for s in 1..=c.sources as usize {
         let waits = waiting(
             c.enable[s],
             c.trigger[s],
@@ -41,7 +32,7 @@ fn entering_ranks(c: Controller) -> [u8; 256]
             c.line[s],
             c.latch[s],
         );
-        ranks[s] = entering_rank(waits, v.priord, Field(c.field[s]));
+        ranks[s] = entering_rank(waits, c.scalars.priord, Field(c.field[s]));
     }
     ranks
 }

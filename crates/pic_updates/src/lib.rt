@@ -3,33 +3,18 @@
 
 ghost use Rattle.std.specs.Prelude.{◌≡◌, ◌%◌, ◌/◌, eqb};
 ghost use Rattle.pic_bits.specs.Tables.{Shaped};
-ghost use Rattle.pic_ready.specs.Ready.{ready_at, followed_of};
+ghost use Rattle.pic_ready.specs.Ready.{followed_of};
 ghost use Rattle.pic_registers.specs.Calls.{sample_of, store_of};
 ghost use Rattle.pic_updates.specs.Updates.{moved_where, moved_at, moved_word};
 
 use pic::{Controller, Outcome};
+use pic_ready::ready;
 use pic_sets::flips::update;
 use pic_sets::switches::reverse;
 use pic_source::Field;
 use pic_source::ranks::to_rank;
-use pic_source::sources::{is_source, waiting};
 
-// Whether source s is enabled and pending.
-fn ready(c: Controller, s: u8) -> bool
-    ensures { result ≡ ready_at c s }
-{
-    let i = s as usize;
-    is_source(c.sources, s as u32)
-        & waiting(
-            c.enable[i],
-            c.trigger[i],
-            c.polarity[i],
-            c.line[i],
-            c.latch[i],
-        )
-}
-
-// What the type of sets says of their list. A reference does not tell; passed by value, they do.
+// What the type of sets says of their list. A reference tells no more than that there are sixteen; passed by value, they tell the rest.
 fn sixteen(sets: [[u32; 8]; 16])
     ensures { Shaped 16 sets }
 {}
@@ -40,11 +25,9 @@ fn follow_source(c: Controller, d: Controller, s: u8, sets: &mut [[u32; 8]; 16])
 {
     sixteen(*sets);
     let i = s as usize;
-    let u = c.scalars;
-    let v = d.scalars;
-    let old = to_rank(u.priord, Field(c.field[i]));
-    let new = to_rank(v.priord, Field(d.field[i]));
-    update(sets, s, old, ready(c, s), new, ready(d, s));
+    let old = to_rank(c.scalars.priord, Field(c.field[i]));
+    let new = to_rank(d.scalars.priord, Field(d.field[i]));
+    update(sets, s, old, ready(&c, s), new, ready(&d, s));
 }
 
 // The sources of word x.
@@ -52,10 +35,8 @@ fn follow_word(c: Controller, d: Controller, x: u8, sets: &mut [[u32; 8]; 16])
     ensures { sets.new ≡ moved_word c d (x % 8) sets.old }
 {
     sixteen(*sets);
-    let mut y: u8 = 0;
-    while y < 32 {
+    for y in 0..32 {
         follow_source(c, d, 32 * (x % 8) + y, sets);
-        y += 1;
     }
 }
 

@@ -19,7 +19,7 @@ pub struct Word {
 fn low_bit(x: u8) -> u32
     ensures { result ≡ low_of x }
 {
-    if x == 0 { 1 } else { 0 }
+    u32::from(x == 0)
 }
 
 // The bits of the sources 1 to n in word x.

@@ -1,4 +1,5 @@
-use mathlib.Core.Path.{◌≡◌, refl, ap, ◌∙◌}
+use Prim.Native.Nat.{◌+◌, ◌-◌}
+use mathlib.Core.Path.{◌≡◌, ap, ◌∙◌}
 use native.Mathlib.Omega.{arith}
 use borrow.Author.Rules.{rules}
 use Rattle.pic_ready.specs.Ready.{sets_by}
@@ -10,10 +11,22 @@ loop-s-init c = (search rules, entered-none c.args.c)
 
 pub loop-s-preserved : goal.loop-s-preserved
 loop-s-preserved c =
-    (search rules, entered-next c.args.c c.loop-s.s _ refl (omega (arith, c.loop-s-test.true)) c.loop-s.invariant.1 c.to_rank-rank.ensures c.waiting-ready.ensures c.update.ensures.sets_after)
+    let l = c.loop-s in
+    let e : l.s ≡ l.s + 1 - 1 = omega arith in (
+      search rules,
+      entered-next c.args.c (l.s - 1) l.s (omega arith) l.invariant.1 c.to_rank-rank.ensures c.ready.ensures c.update.ensures.sets_after
+          ∙ ap (λ k. sets_by (entered c.args.c k)) e,
+    )
 
 pub returns : goal.returns
 returns c =
-    let m = c.args.c in
-    let e : c.loop-s.s ≡ m.sources = omega (arith, c.loop-s.invariant.0, c.loop-s-test.false) in
-    c.loop-s.invariant.1 ∙ ap (λ k. sets_by (entered m k)) e ∙ entered_all m
+    let e : c.loop-s.s - 1 ≡ c.args.c.sources = omega (arith, c.loop-s.invariant.0) in
+    c.loop-s.invariant.1 ∙ ap (λ k. sets_by (entered c.args.c k)) e ∙ entered_all c.args.c
+
+pub returns-2 : goal.returns-2
+returns-2 c =
+    let l = c.loop-s in
+    let e : l.s ≡ c.args.c.sources = omega arith in
+    entered-next c.args.c (l.s - 1) l.s (omega arith) l.invariant.1 c.to_rank-rank.ensures c.ready.ensures c.update.ensures.sets_after
+    ∙ ap (λ k. sets_by (entered c.args.c k)) e
+    ∙ entered_all c.args.c

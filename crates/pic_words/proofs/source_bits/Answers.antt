@@ -18,9 +18,6 @@ returns-then-end-first c = let a = c.args in bits_none a.n a.x (omega (arith, c.
 pub returns-then-first-end : goal.returns-then-first-end
 returns-then-first-end c = let b = c.before.before in bits-all b.args.n b.args.x _ b.low_bit-low.ensures (omega (arith, c.if-first-end.true))
 
-pub overflow_sub-result-3 : goal.overflow_sub-result-3
-overflow_sub-result-3 c = omega (arith, fits c)
-
 pub overflow_sub-result-4 : goal.overflow_sub-result-4
 overflow_sub-result-4 c = omega (arith, fits c)
 

@@ -3,7 +3,6 @@ use mir.Val.{Fits}
 use Prim.Native.Nat.{ℕ, ◌+◌, ◌^◌, ◌<◌}
 use mathlib.Core.Path.{◌≡◌}
 use native.Mathlib.Omega.{arith}
-use lib.Pow.{pow_pos}
 use Rattle.pic_bits.specs.Bits.{Lowest, lowest_bit}
 use Rattle.pic_bits.proofs.Bits.{bit_le, one_shifted}
 use Rattle.pic_bits.proofs.Zeros.{lowest-is}
@@ -18,30 +17,10 @@ lowest left y e more f = rw e (lowest-is left more f)
 pub loop-left-init : goal.loop-left-init
 loop-left-init c = (let f : Fits w32 c.args.changed = search rules in f.fits, 0, begun _ _ _ _)
 
-pub overflow_cast-s : goal.overflow_cast-s
-overflow_cast-s c = record { fits = omega (arith, (lowest _ _ c.lowest_bit-y.ensures (omega arith) c.loop-left.invariant.0).within) }
-
-pub overflow_add-s : goal.overflow_add-s
-overflow_add-s c = record { fits = omega (arith, (lowest _ _ c.lowest_bit-y.ensures (omega arith) c.loop-left.invariant.0).within) }
-
-pub bounds-field-s : goal.bounds-field-s
-bounds-field-s c = omega (arith, (lowest _ _ c.lowest_bit-y.ensures (omega arith) c.loop-left.invariant.0).within)
-
-pub overflow_shl-left : goal.overflow_shl-left
-overflow_shl-left c = (lowest _ _ c.lowest_bit-y.ensures (omega arith) c.loop-left.invariant.0).within
-
 pub overflow_sub-left : goal.overflow_sub-left
 overflow_sub-left c =
     let l = lowest _ _ c.lowest_bit-y.ensures (omega arith) c.loop-left.invariant.0 in
     rw (one_shifted c.lowest_bit-y.result l.within) (bit_le c.lowest_bit-y.result c.loop-left.left l.on)
-
-pub loop-left-smaller : goal.loop-left-smaller
-loop-left-smaller c =
-    let l = lowest _ _ c.lowest_bit-y.ensures (omega arith) c.loop-left.invariant.0 in
-    let y = c.lowest_bit-y.result in
-    let p : 0 < 2 ^ y = pow_pos y in
-    let k = bit_le y c.loop-left.left l.on in
-    rw (one_shifted y l.within) (omega (arith, p, k))
 
 pub loop-left-preserved : goal.loop-left-preserved
 loop-left-preserved c =

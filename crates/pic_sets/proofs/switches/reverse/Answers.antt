@@ -1,18 +1,16 @@
-use mathlib.Core.Path.{◌≡◌, refl}
+use Prim.Native.Nat.{◌-◌}
+use mathlib.Core.Path.{ap, ◌∙◌}
 use mathlib.Core.List.{[]}
+use lib.ListN.{get_or}
 use native.Mathlib.Omega.{arith}
-use Rattle.pic_bits.proofs.Tables.{fill_none, fill-next, fill-all}
+use Rattle.pic_bits.proofs.Tables.{table_is}
 use Rattle.pic_sets.specs.Sets.{reversed_of}
-use borrow.Author.Rules.{rules}
 use Rattle.pic_sets.proofs.switches.reverse.Goals as goal
-
-pub loop-r-init : goal.loop-r-init
-loop-r-init c = (search rules, fill_none [] 16 _ _ c.sixteen.ensures.many)
-
-pub loop-r-preserved : goal.loop-r-preserved
-loop-r-preserved c =
-    (search rules, fill-next [] 16 _ c.loop-r.sets c.loop-r.r _ c.loop-r-test.true refl c.loop-r.invariant.1)
 
 pub returns : goal.returns
 unfolding reversed_of
-returns c = let e : c.loop-r.r ≡ 16 = omega arith in fill-all [] 16 _ _ (rw e at c.loop-r.invariant.1)
+returns c =
+    let r = c.reverse.ensures in
+    let old = c.args.sets.now in
+    table_is [] 16 _ _ (r.len ∙ c.told-sets)
+    (λ i l. r.by_index i [] (omega (arith, c.told-sets, l)) ∙ ap (λ k. get_or old (k - 1 - i) []) c.told-sets ∙ ap (λ k. get_or old k []) (omega arith))
