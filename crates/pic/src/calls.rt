@@ -13,21 +13,21 @@ use pic_source::ranks::{to_field, to_rank};
 fn higher(a: Rank, b: Rank) -> Rank
     ensures { result ≡ higher_of a b }
 {
-    if a.0 < b.0 { b } else { a }
+    Rank(a.0.max(b.0))
 }
 
 // The first rank minus the second.
 fn difference(a: Rank, b: Rank) -> i32
     ensures { result ≡ difference_of a b }
 {
-    (a.0 as i32) - (b.0 as i32)
+    i32::from(a.0) - i32::from(b.0)
 }
 
 // The word of meihap.
 pub fn meihap(base: u32, claim: u8) -> u32
     ensures { result ≡ meihap_of base claim }
 {
-    std::num::wrapping_add_u32(base, 4 * (claim as u32))
+    base.wrapping_add(4 * u32::from(claim))
 }
 
 impl Controller {

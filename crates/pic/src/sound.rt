@@ -70,9 +70,7 @@ impl Controller {
     {
         let n = self.sources as usize;
         let mut ok = true;
-        let mut s: usize = 0;
-        while s < n {
-            s += 1;
+        for s in 1..n + 1 {
             ok = ok
                 & source_sound(
                     Field(self.field[s]),

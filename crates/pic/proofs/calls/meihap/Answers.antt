@@ -3,4 +3,4 @@ use Rattle.pic.proofs.calls.meihap.Goals as goal
 
 pub returns : goal.returns
 unfolding meihap_of
-returns c = c.wrapping_add_u32.ensures.value
+returns c = rw c.from.ensures
