@@ -28,7 +28,3 @@ returns-in-Meigwctrl c = rw c.in-Meigwctrl.is c.gateway_at.ensures
 pub returns-in-Meigwclr : goal.returns-in-Meigwclr
 unfolding read_of
 returns-in-Meigwclr c = rw c.in-Meigwclr.is
-
-pub returns-in-NoRegister : goal.returns-in-NoRegister
-unfolding read_of
-returns-in-NoRegister c = rw c.in-NoRegister.is

@@ -24,7 +24,3 @@ returns-in-Meigwctrl c = rw c.in-Meigwctrl.is c.write_gateway.ensures
 pub returns-in-Meigwclr : goal.returns-in-Meigwclr
 unfolding written_of
 returns-in-Meigwclr c = rw c.in-Meigwclr.is c.clear_latch.ensures
-
-pub returns-in-NoRegister : goal.returns-in-NoRegister
-unfolding written_of
-returns-in-NoRegister c = rw c.in-NoRegister.is
