@@ -22,6 +22,6 @@ unfolding load_of number_in read_of
 returns c =
     rw (← c.in_default.ensures, c.accept.ensures)
     (elim c.match-register_at.branch [
-      in-Some w ↦ rw (w.a-is, ← w.in-Some.ensures, w.read-a.ensures)
-    | in-None w ↦ rw (w.a-is, ← w.in-None.ensures)
+      | in-Some w ↦ rw (w.a-is, ← w.in-Some.ensures, w.read-a.ensures)
+      | in-None w ↦ rw (w.a-is, ← w.in-None.ensures)
     ])
