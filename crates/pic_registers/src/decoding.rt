@@ -9,6 +9,7 @@ use pic_source::sources::is_source;
 use questions::Refusal;
 
 // The register of source s in a page of 4,096 bytes.
+#[tactic(auto, unfolding(crate::specs::Offsets::source_register))]
 fn source_register(page: u32, s: u8) -> Option<Register>
     ensures { result ≡ source_register page s }
 {
@@ -22,6 +23,7 @@ fn source_register(page: u32, s: u8) -> Option<Register>
 }
 
 // The register at an offset, of a controller with n sources.
+#[tactic(auto, unfolding(crate::specs::Offsets::page_register))]
 pub(crate) fn register_at(n: u8, offset: u32) -> Option<Register>
     ensures { result ≡ register_at n offset }
 {

@@ -30,6 +30,7 @@ pub enum Register {
 }
 
 // What a register reads.
+#[tactic(auto, unfolding(crate::specs::Registers::read_of))]
 fn read(c: Controller, r: Register) -> u32
     requires { is_register c.sources (Some r) ≡ true }
     ensures { result ≡ read_of c (Some r) }
@@ -45,6 +46,7 @@ fn read(c: Controller, r: Register) -> u32
 }
 
 // A store of v to a register.
+#[tactic(auto, unfolding(crate::specs::Registers::written_of))]
 fn write(c: Controller, r: Register, v: u32) -> Controller
     ensures { result ≡ written_of c (Some r) v }
 {
