@@ -61,6 +61,7 @@ fn write(c: Controller, r: Register, v: u32) -> Controller
 }
 
 // The lines of word x take the bits of v.
+#[tactic(auto, unfolding(crate::specs::Calls::sample_of))]
 pub fn sample(c: Controller, x: u32, v: u32) -> Outcome
     ensures { result ≡ sample_of c x v }
 {

@@ -1,4 +1,5 @@
 // The registers of one source: what each reads, and what a store changes.
+#![tactic(auto, unfolding(crate::specs::Registers::written_of))]
 
 ghost use Rattle.std.specs.Prelude.{◌≡◌, ◌+◌, ◌*◌, Some};
 ghost use Rattle.pic.specs.Sources.{field_at, enable_at, trigger_at, polarity_at, settle_at};

@@ -1,4 +1,4 @@
-use Rattle.std.proofs.Common.{refl, rules}
+use Rattle.std.proofs.Common.{rules}
 use Rattle.pic_bits.specs.Bits.{word_to}
 use Rattle.pic_bits.proofs.Words.{join-lt}
 use Rattle.pic_registers.proofs.Turns.{pending-turn}
