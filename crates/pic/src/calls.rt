@@ -24,6 +24,7 @@ fn difference(a: Rank, b: Rank) -> i32
 }
 
 // The word of meihap.
+#[tactic(auto, unfolding(crate::specs::Calls::meihap_of))]
 pub fn meihap(base: u32, claim: u8) -> u32
     ensures { result ≡ meihap_of base claim }
 {
@@ -52,6 +53,7 @@ impl Controller {
     }
 
     // N.
+    #[tactic(auto, unfolding(crate::specs::Calls::source_count))]
     pub fn source_count(self) -> u8
         ensures { result ≡ source_count self }
     {
@@ -59,12 +61,14 @@ impl Controller {
     }
 
     // Priord.
+    #[tactic(auto, unfolding(crate::specs::Calls::priority_order))]
     pub fn priority_order(self) -> u8
         ensures { result ≡ priority_order self }
     {
         self.scalars.priord
     }
 
+    #[tactic(auto, unfolding(crate::specs::Calls::current_rank))]
     pub fn current_rank(self) -> Rank
         ensures { result ≡ current_rank self }
     {
@@ -73,6 +77,7 @@ impl Controller {
     }
 
     // The controller with another current rank, as the layer above sets it.
+    #[tactic(auto, unfolding(crate::specs::Calls::set_current))]
     pub fn set_current(mut self, rank: Rank) -> Controller
         ensures { result ≡ set_current self rank }
     {
@@ -83,6 +88,7 @@ impl Controller {
     }
 
     // Claim and claimed from the winner w.
+    #[tactic(auto, unfolding(crate::specs::Calls::capture_of))]
     pub fn capture(mut self, w: Winner) -> Controller
         ensures { result ≡ capture_of self w }
     {
