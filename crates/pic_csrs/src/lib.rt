@@ -58,25 +58,13 @@ fn csr_written(mut s: Scalars, csr: Csr, v: u32) -> Scalars
 {
     let f = Field((v % 16) as u8);
     match csr {
-        Csr::Meivt => {
-            s.base = v / 1024 * 1024;
-            s
-        }
-        Csr::Meipt => {
-            s.threshold = f;
-            s
-        }
-        Csr::Meicpct => s,
-        Csr::Meicidpl => {
-            s.claimed = f;
-            s
-        }
-        Csr::Meicurpl => {
-            s.current = f;
-            s
-        }
-        Csr::Meihap => s,
+        Csr::Meivt => s.base = v / 1024 * 1024,
+        Csr::Meipt => s.threshold = f,
+        Csr::Meicidpl => s.claimed = f,
+        Csr::Meicurpl => s.current = f,
+        Csr::Meicpct | Csr::Meihap => {}
     }
+    s
 }
 
 // A read of a CSR.
