@@ -1,5 +1,5 @@
 -- Document 02, No. 1 and No. 5: question 12 "widens" to the CSRs of the timers and of the error counters; and what these CSRs keep, of the whole machine.
-use Rattle.std.specs.Prelude.{ℕ, ◌^◌, ◌<◌, ◌≡◌, Bool, true, false, cond, not, ◌||◌, List, [], ◌∷◌, ◌++◌, eqb}
+use Rattle.std.specs.Prelude.{ℕ, ◌^◌, ◌<◌, ◌≡◌, Some, Bool, true, false, cond, not, ◌||◌, List, [], ◌∷◌, ◌++◌, eqb}
 use Rattle.counters.specs.declared.Csr.{Csr}
 use Rattle.counters.specs.Csrs.{csr_address, is_csr}
 use Rattle.counters.specs.Each.{kept_by}

@@ -24,7 +24,7 @@ use Rattle.pic.specs.Sources.{field_at, rank_at, enable_at, pending_at, eligible
 use Rattle.pic.specs.Sound.{sound_of}
 use Rattle.pic.specs.Calls.{accepts, asks, source_count, priority_order, set_current, capture_of}
 use Rattle.pic_registers.specs.Registers.{sampled, written_of, clears}
-use Rattle.pic_registers.specs.Offsets.{offset_of, register_at, offset_refusal}
+use Rattle.pic_registers.specs.Offsets.{register_at, offset_refusal}
 use Rattle.pic_registers.specs.Calls.{sample_of, store_of}
 use Rattle.pic_csrs.specs.Addresses.{csr_at}
 use Rattle.pic_csrs.specs.Calls.{csr_write_of}
