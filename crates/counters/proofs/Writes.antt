@@ -14,8 +14,9 @@ use Rattle.counters_errors.specs.Errors.{held_of}
 use Rattle.counters_errors.proofs.Counts.{error-put, error-other}
 use Rattle.counters_errors.proofs.Soundness as errors
 use Rattle.counters.specs.declared.Counters.{Counters}
+use Rattle.std.specs.Prelude.{Option, Some, None}
 use Rattle.counters.specs.declared.Csr.{Csr}
-use Rattle.counters.specs.declared.Csr.TheVariants.{Mitcnt, Mitb, Mitctl, Ect, NoCsr}
+use Rattle.counters.specs.declared.Csr.TheVariants.{Mitcnt, Mitb, Mitctl, Ect}
 use Rattle.counters.specs.Whole.{sound_of}
 use Rattle.counters.specs.Csrs.{is_csr, timer_of, put_timer, csr_value, csr_written}
 use Rattle.counters.specs.Each.{kept_by, WrittenEach}
@@ -39,57 +40,57 @@ module _ (c : Counters) (i j : ℕ) (t : Timer) (f : Timer → ℕ) where
   other-register e = register-stays c.timers i j t f e
 
 -- A write to r, and another CSR q.
-apart : (c : Counters) (v : ℕ) (r q : Csr) → (q ≡ r → ⊥) → csr_value (csr_written c r v) q ≡ csr_value c q
+apart : (c : Counters) (v : ℕ) (r q : Option Csr) → (q ≡ r → ⊥) → csr_value (csr_written c r v) q ≡ csr_value c q
 unfolding csr_value csr_written
-apart c v (Mitcnt i) (Mitcnt j) d = other-timer c i j _ count_of (λ s. d (ap Mitcnt s))
-apart c v (Mitcnt i) (Mitb j) d = other-register c i j _ bound_of refl
-apart c v (Mitcnt i) (Mitctl j) d = other-register c i j _ control_of refl
-apart c v (Mitcnt i) (Ect j) d = refl
-apart c v (Mitcnt i) NoCsr d = refl
-apart c v (Mitb i) (Mitcnt j) d = other-register c i j _ count_of refl
-apart c v (Mitb i) (Mitb j) d = other-timer c i j _ bound_of (λ s. d (ap Mitb s))
-apart c v (Mitb i) (Mitctl j) d = other-register c i j _ control_of refl
-apart c v (Mitb i) (Ect j) d = refl
-apart c v (Mitb i) NoCsr d = refl
-apart c v (Mitctl i) (Mitcnt j) d = other-register c i j _ count_of refl
-apart c v (Mitctl i) (Mitb j) d = other-register c i j _ bound_of refl
-apart c v (Mitctl i) (Mitctl j) d = other-timer c i j _ control_of (λ s. d (ap Mitctl s))
-apart c v (Mitctl i) (Ect j) d = refl
-apart c v (Mitctl i) NoCsr d = refl
-apart c v (Ect i) (Mitcnt j) d = refl
-apart c v (Ect i) (Mitb j) d = refl
-apart c v (Ect i) (Mitctl j) d = refl
-apart c v (Ect i) (Ect j) d = ap (λ (e : ErrorCounter). e.0) (error-other c.errors i j (held_of v) (λ s. d (ap Ect s)))
-apart c v (Ect i) NoCsr d = refl
-apart c v NoCsr q d = refl
+apart c v (Some (Mitcnt i)) (Some (Mitcnt j)) d = other-timer c i j _ count_of (λ s. d (ap (λ (n : ℕ). Some (Mitcnt n)) s))
+apart c v (Some (Mitcnt i)) (Some (Mitb j)) d = other-register c i j _ bound_of refl
+apart c v (Some (Mitcnt i)) (Some (Mitctl j)) d = other-register c i j _ control_of refl
+apart c v (Some (Mitcnt i)) (Some (Ect j)) d = refl
+apart c v (Some (Mitcnt i)) None d = refl
+apart c v (Some (Mitb i)) (Some (Mitcnt j)) d = other-register c i j _ count_of refl
+apart c v (Some (Mitb i)) (Some (Mitb j)) d = other-timer c i j _ bound_of (λ s. d (ap (λ (n : ℕ). Some (Mitb n)) s))
+apart c v (Some (Mitb i)) (Some (Mitctl j)) d = other-register c i j _ control_of refl
+apart c v (Some (Mitb i)) (Some (Ect j)) d = refl
+apart c v (Some (Mitb i)) None d = refl
+apart c v (Some (Mitctl i)) (Some (Mitcnt j)) d = other-register c i j _ count_of refl
+apart c v (Some (Mitctl i)) (Some (Mitb j)) d = other-register c i j _ bound_of refl
+apart c v (Some (Mitctl i)) (Some (Mitctl j)) d = other-timer c i j _ control_of (λ s. d (ap (λ (n : ℕ). Some (Mitctl n)) s))
+apart c v (Some (Mitctl i)) (Some (Ect j)) d = refl
+apart c v (Some (Mitctl i)) None d = refl
+apart c v (Some (Ect i)) (Some (Mitcnt j)) d = refl
+apart c v (Some (Ect i)) (Some (Mitb j)) d = refl
+apart c v (Some (Ect i)) (Some (Mitctl j)) d = refl
+apart c v (Some (Ect i)) (Some (Ect j)) d = ap (λ (e : ErrorCounter). e.0) (error-other c.errors i j (held_of v) (λ s. d (ap (λ (n : ℕ). Some (Ect n)) s)))
+apart c v (Some (Ect i)) None d = refl
+apart c v None q d = refl
 
 pub written-each : WrittenEach
 unfolding csr_value csr_written
 written-each c r v h = record { itself = itself r h; others = λ q d. apart c v r q d }
   where
-    itself : (p : Csr) → is_csr p ≡ true → csr_value (csr_written c p v) p ≡ kept_by p v
-    itself (Mitcnt i) e = ap count_of (timer-put c.timers i (with_count (timer_of c i) v) (ltb-true i 2 e))
-    itself (Mitb i) e = ap bound_of (timer-put c.timers i (with_bound (timer_of c i) v) (ltb-true i 2 e))
-    itself (Mitctl i) e = ap control_of (timer-put c.timers i (with_control (timer_of c i) (v % 8)) (ltb-true i 2 e))
-    itself (Ect i) e = ap (λ (d : ErrorCounter). d.0) (error-put c.errors i (held_of v) (ltb-true i 3 e))
-    itself NoCsr e = never e
+    itself : (p : Option Csr) → is_csr p ≡ true → csr_value (csr_written c p v) p ≡ kept_by p v
+    itself (Some (Mitcnt i)) e = ap count_of (timer-put c.timers i (with_count (timer_of c i) v) (ltb-true i 2 e))
+    itself (Some (Mitb i)) e = ap bound_of (timer-put c.timers i (with_bound (timer_of c i) v) (ltb-true i 2 e))
+    itself (Some (Mitctl i)) e = ap control_of (timer-put c.timers i (with_control (timer_of c i) (v % 8)) (ltb-true i 2 e))
+    itself (Some (Ect i)) e = ap (λ (d : ErrorCounter). d.0) (error-put c.errors i (held_of v) (ltb-true i 3 e))
+    itself None e = never e
 
 -- A sound timer put for timer i.
 put-timer-sound : (c : Counters) (i : ℕ) (t : Timer) → sound_of c ≡ true → timers.Sound t → sound_of (put_timer c i t) ≡ true
 put-timer-sound c i t e f = let h = facts c e in sound (put_timer c i t) (record { timers = timers.put-sound c.timers i t h.timers f; errors = h.errors })
 
-pub written-sound : (c : Counters) (r : Csr) (v : ℕ) → v < 2 ^ 32 → sound_of c ≡ true → sound_of (csr_written c r v) ≡ true
+pub written-sound : (c : Counters) (r : Option Csr) (v : ℕ) → v < 2 ^ 32 → sound_of c ≡ true → sound_of (csr_written c r v) ≡ true
 unfolding csr_written
-written-sound c (Mitcnt i) v b e =
+written-sound c (Some (Mitcnt i)) v b e =
     let f = timers.facts c.timers (facts c e).timers i in
     put-timer-sound c i (with_count (timer_of c i) v) e (record { count = b; bound = f.bound; control = f.control })
-written-sound c (Mitb i) v b e =
+written-sound c (Some (Mitb i)) v b e =
     let f = timers.facts c.timers (facts c e).timers i in
     put-timer-sound c i (with_bound (timer_of c i) v) e (record { count = f.count; bound = b; control = f.control })
-written-sound c (Mitctl i) v b e =
+written-sound c (Some (Mitctl i)) v b e =
     let f = timers.facts c.timers (facts c e).timers i in
     put-timer-sound c i (with_control (timer_of c i) (v % 8)) e (record { count = f.count; bound = f.bound; control = omega arith })
-written-sound c (Ect i) v b e =
+written-sound c (Some (Ect i)) v b e =
     let h = facts c e in
-    sound (csr_written c (Ect i) v) (record { timers = h.timers; errors = errors.held-sound c.errors i v h.errors })
-written-sound c NoCsr v b e = e
+    sound (csr_written c (Some (Ect i)) v) (record { timers = h.timers; errors = errors.held-sound c.errors i v h.errors })
+written-sound c None v b e = e

@@ -8,6 +8,7 @@ use counters_errors::ErrorCounter;
 use counters_timers::Timer;
 
 // The CSR of timer i that is k places on from its first.
+#[tactic(auto, unfolding(crate::specs::Csrs::csr_of))]
 fn csr_of(i: u8, k: u32) -> Csr
     ensures { result ≡ csr_of i k }
 {
@@ -19,29 +20,28 @@ fn csr_of(i: u8, k: u32) -> Csr
 }
 
 // The CSR that has an address.
-pub fn csr_at(address: u32) -> Csr
+#[tactic(auto, unfolding(crate::specs::Csrs::csr_at))]
+pub fn csr_at(address: u32) -> Option<Csr>
     ensures { result ≡ csr_at address }
 {
-    if (0x7D2 <= address) & (address < 0x7D8) {
-        let k = address - 0x7D2;
-        return csr_of((k / 3) as u8, k % 3);
+    match address {
+        0x7D2..=0x7D7 => {
+            let k = address - 0x7D2;
+            Some(csr_of((k / 3) as u8, k % 3))
+        }
+        0x7F0..=0x7F2 => Some(Csr::Ect((address - 0x7F0) as u8)),
+        _ => None,
     }
-    if (0x7F0 <= address) & (address < 0x7F3) {
-        return Csr::Ect((address - 0x7F0) as u8);
-    }
-    Csr::NoCsr
 }
 
 // Whether there is such a CSR.
-pub fn is_csr(csr: Csr) -> bool
+pub fn is_csr(csr: Option<Csr>) -> bool
     ensures { result ≡ is_csr csr }
 {
     match csr {
-        Csr::Mitcnt(i) => i < 2,
-        Csr::Mitb(i) => i < 2,
-        Csr::Mitctl(i) => i < 2,
-        Csr::Ect(i) => i < 3,
-        Csr::NoCsr => false,
+        Some(Csr::Mitcnt(i) | Csr::Mitb(i) | Csr::Mitctl(i)) => i < 2,
+        Some(Csr::Ect(i)) => i < 3,
+        None => false,
     }
 }
 
@@ -55,44 +55,51 @@ impl Counters {
     }
 
     // What a CSR reads.
-    pub fn csr_value(self, csr: Csr) -> u32
+    #[tactic(auto, unfolding(crate::specs::Csrs::csr_value))]
+    pub fn csr_value(self, csr: Option<Csr>) -> u32
         ensures { result ≡ csr_value self csr }
     {
         match csr {
-            Csr::Mitcnt(i) => self.timers.timer(i).count,
-            Csr::Mitb(i) => self.timers.timer(i).bound,
-            Csr::Mitctl(i) => self.timers.timer(i).control,
-            Csr::Ect(i) => self.errors.counter(i).0,
-            Csr::NoCsr => 0,
+            Some(Csr::Mitcnt(i)) => self.timers.timer(i).count,
+            Some(Csr::Mitb(i)) => self.timers.timer(i).bound,
+            Some(Csr::Mitctl(i)) => self.timers.timer(i).control,
+            Some(Csr::Ect(i)) => self.errors.counter(i).0,
+            None => 0,
         }
     }
 
     // A write of v to a CSR.
-    pub fn csr_written(mut self, csr: Csr, v: u32) -> Counters
+    #[tactic(auto, unfolding(crate::specs::Csrs::csr_written))]
+    pub fn csr_written(mut self, csr: Option<Csr>, v: u32) -> Counters
         ensures { result ≡ csr_written self csr v }
     {
         match csr {
-            Csr::Mitcnt(i) => {
-                let mut t = self.timers.timer(i);
-                t.count = v;
+            Some(Csr::Mitcnt(i)) => {
+                let t = Timer {
+                    count: v,
+                    ..self.timers.timer(i)
+                };
                 self.with_timer(i, t)
             }
-            Csr::Mitb(i) => {
-                let mut t = self.timers.timer(i);
-                t.bound = v;
+            Some(Csr::Mitb(i)) => {
+                let t = Timer {
+                    bound: v,
+                    ..self.timers.timer(i)
+                };
                 self.with_timer(i, t)
             }
-            Csr::Mitctl(i) => {
-                let mut t = self.timers.timer(i);
-                t.control = v % 8;
+            Some(Csr::Mitctl(i)) => {
+                let t = Timer {
+                    control: v % 8,
+                    ..self.timers.timer(i)
+                };
                 self.with_timer(i, t)
             }
-            Csr::Ect(i) => {
-                let e = self.errors;
-                self.errors = e.with_counter(i, ErrorCounter::held(v));
+            Some(Csr::Ect(i)) => {
+                self.errors = self.errors.with_counter(i, ErrorCounter::held(v));
                 self
             }
-            Csr::NoCsr => self,
+            None => self,
         }
     }
 }

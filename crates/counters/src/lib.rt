@@ -27,5 +27,4 @@ pub enum Csr {
     Mitb(u8),
     Mitctl(u8),
     Ect(u8),
-    NoCsr,
 }

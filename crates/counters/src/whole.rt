@@ -20,6 +20,7 @@ impl Counters {
     }
 
     // Whether the counters are sound.
+    #[tactic(auto, unfolding(crate::specs::Whole::sound_of))]
     pub fn is_sound(self) -> bool
         ensures { result ≡ sound_of self }
     {

@@ -1,28 +1,11 @@
 -- What the code's questions show, in the words of the rules.
-use Prim.Native.Nat.{ℕ, zero, suc, ◌≤◌}
+use Prim.Native.Nat.{ℕ, ◌≤◌}
 use mathlib.Core.Path.{◌≡◌, refl}
 use mathlib.Core.Bool.{Bool, true, false, cond}
 use native.Mathlib.Omega.{arith}
 use lib.Dec.{leb}
 use borrow.Author.Tests.{leb-true}
-use Rattle.counters_errors.specs.declared.ErrorCounter.{ErrorCounter}
-use Rattle.counters_errors.specs.declared.ErrorCounters.{ErrorCounters}
-use Rattle.counters_errors.specs.Errors.{held_threshold, error_at, with_error}
-
--- Where it is none of 0 to 2, there is no counter.
-pub none_read : (c : ErrorCounters) (i : ℕ) → (i ≡ 0 → ⊥) → (i ≡ 1 → ⊥) → (i ≡ 2 → ⊥) → ◌≡◌ {A = ErrorCounter} (record { 0 = 0 }) (error_at c i)
-unfolding error_at
-none_read c zero d g h = absurd (d refl)
-none_read c (suc zero) d g h = absurd (g refl)
-none_read c (suc (suc zero)) d g h = absurd (h refl)
-none_read c (suc (suc (suc i))) d g h = refl
-
-pub none-put : (c : ErrorCounters) (i : ℕ) (e : ErrorCounter) → (i ≡ 0 → ⊥) → (i ≡ 1 → ⊥) → (i ≡ 2 → ⊥) → c ≡ with_error c i e
-unfolding with_error
-none-put c zero e d g h = absurd (d refl)
-none-put c (suc zero) e d g h = absurd (g refl)
-none-put c (suc (suc zero)) e d g h = absurd (h refl)
-none-put c (suc (suc (suc i))) e d g h = refl
+use Rattle.counters_errors.specs.Errors.{held_threshold}
 
 -- A threshold that is held is at most 26.
 pub held_small : (t : ℕ) {h : ℕ} → h ≡ held_threshold t → h ≤ 26

@@ -9,11 +9,12 @@ use crate::ErrorCounter;
 fn held_threshold(t: u32) -> u32
     ensures { result ≡ held_threshold t }
 {
-    if t <= 26 { t } else { 26 }
+    t.min(26)
 }
 
 impl ErrorCounter {
     // The counter where v is written to its register.
+    #[tactic(auto, unfolding(crate::specs::Errors::held_of))]
     pub fn held(v: u32) -> ErrorCounter
         ensures { result ≡ held_of v }
     {
@@ -36,6 +37,7 @@ impl ErrorCounter {
     }
 
     // Whether the threshold is in its range. The count is, by its place.
+    #[tactic(auto, unfolding(crate::specs::Errors::error_sound))]
     pub(crate) fn is_sound(self) -> bool
         ensures { result ≡ error_sound self }
     {
@@ -43,6 +45,7 @@ impl ErrorCounter {
     }
 
     // The counter with one error more.
+    #[tactic(auto, unfolding(crate::specs::Errors::counted))]
     pub(crate) fn counted(self) -> ErrorCounter
         ensures { result ≡ counted self }
     {
@@ -52,6 +55,7 @@ impl ErrorCounter {
     }
 
     // The bit of the count that the threshold selects.
+    #[tactic(auto, unfolding(crate::specs::Errors::selected_bit))]
     pub(crate) fn selected_bit(self) -> u32
         ensures { result ≡ selected_bit self }
     {

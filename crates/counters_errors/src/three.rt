@@ -8,6 +8,7 @@ use outcome::Answering;
 
 impl ErrorCounters {
     // The error counters as power-on leaves them.
+    #[tactic(auto, unfolding(crate::specs::Errors::reset_errors))]
     pub fn reset() -> ErrorCounters
         ensures { result ≡ reset_errors }
     {
@@ -19,6 +20,7 @@ impl ErrorCounters {
     }
 
     // Whether the error counters are sound.
+    #[tactic(auto, unfolding(crate::specs::Errors::errors_sound))]
     pub fn is_sound(self) -> bool
         ensures { result ≡ errors_sound self }
     {
@@ -29,6 +31,7 @@ impl ErrorCounters {
     }
 
     // Error counter i; a counter of 0 where there is none.
+    #[tactic(auto, unfolding(crate::specs::Errors::error_at))]
     pub fn counter(self, i: u8) -> ErrorCounter
         ensures { result ≡ error_at self i }
     {
@@ -41,24 +44,17 @@ impl ErrorCounters {
     }
 
     // The error counters with e for counter i; as before where there is none.
+    #[tactic(auto, unfolding(crate::specs::Errors::with_error))]
     pub fn with_counter(mut self, i: u8, e: ErrorCounter) -> ErrorCounters
         ensures { result ≡ with_error self i e }
     {
         match i {
-            0 => {
-                self.micect = e;
-                self
-            }
-            1 => {
-                self.miccmect = e;
-                self
-            }
-            2 => {
-                self.mdccmect = e;
-                self
-            }
-            _ => self,
+            0 => self.micect = e,
+            1 => self.miccmect = e,
+            2 => self.mdccmect = e,
+            _ => {}
         }
+        self
     }
 
     // One error in the counter that an address names. Question 25 is asked first.

@@ -7,6 +7,7 @@ use crate::{Clocked, Timer, Timers};
 
 impl Timers {
     // The timers as power-on leaves them.
+    #[tactic(auto, unfolding(crate::specs::Timers::reset_timers))]
     pub fn reset() -> Timers
         ensures { result ≡ reset_timers }
     {
@@ -22,6 +23,7 @@ impl Timers {
     }
 
     // Whether both timers are sound.
+    #[tactic(auto, unfolding(crate::specs::Timers::timers_sound))]
     pub fn is_sound(self) -> bool
         ensures { result ≡ timers_sound self }
     {
@@ -31,6 +33,7 @@ impl Timers {
     }
 
     // Timer i; a timer of zeros where there is none.
+    #[tactic(auto, unfolding(crate::specs::Timers::timer_at))]
     pub fn timer(self, i: u8) -> Timer
         ensures { result ≡ timer_at self i }
     {
@@ -46,20 +49,16 @@ impl Timers {
     }
 
     // The timers with t for timer i; as before where there is none.
+    #[tactic(auto, unfolding(crate::specs::Timers::with_timer))]
     pub fn with_timer(mut self, i: u8, t: Timer) -> Timers
         ensures { result ≡ with_timer self i t }
     {
         match i {
-            0 => {
-                self.timer0 = t;
-                self
-            }
-            1 => {
-                self.timer1 = t;
-                self
-            }
-            _ => self,
+            0 => self.timer0 = t,
+            1 => self.timer1 = t,
+            _ => {}
         }
+        self
     }
 
     // One clock.

@@ -17,10 +17,11 @@ impl Timer {
     pub(crate) fn signal(self) -> u32
         ensures { result ≡ signal_bit self }
     {
-        if self.bound <= self.count { 1 } else { 0 }
+        u32::from(self.bound <= self.count)
     }
 
     // The counter after a clock.
+    #[tactic(auto, unfolding(crate::specs::Timers::next_count))]
     fn next_count(self) -> u32
         ensures { result ≡ next_count self }
     {

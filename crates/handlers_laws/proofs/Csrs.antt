@@ -15,6 +15,7 @@ use Rattle.pic_csrs.specs.Addresses as csrs
 use Rattle.pic_csrs.specs.Calls as csr-calls
 use Rattle.pic_csrs.proofs.Addresses as csr-laws
 use Rattle.pic_laws.proofs.Csrs.{read-12, write-12, write-refusal}
+use Rattle.std.specs.Prelude.{Option, Some, None}
 use Rattle.counters.specs.declared.Csr.{Csr}
 use Rattle.counters.specs.declared.Csr.TheVariants.{Mitcnt, Mitb, Mitctl, Ect}
 use Rattle.counters.specs.Csrs.{csr_address, is_csr, csr_at, csr_value, csr_written}
@@ -53,33 +54,30 @@ alike false true f g = g refl
 alike false false f g = refl
 
 -- The six of 01 are those that the controller has.
-not_none : (r : controller.Csr) → csrs.is_csr r ≡ true → r ≡ c.NoCsr → ⊥
-not_none r e f = never (sym (ap csrs.is_csr f) ∙ e)
-
-known : (r : controller.Csr) → csrs.is_csr r ≡ true → csrs.is_csr (csrs.csr_at (csrs.csr_address r)) ≡ true
-known r e = rw (csr-laws.address-csr r (not_none r e)) e
+known : (r : controller.Csr) → csrs.is_csr (csrs.csr_at (csrs.csr_address r)) ≡ true
+known r = rw (csr-laws.address-csr r)
 
 of-01 : (a : ℕ) → is_one_of a csrs_of01 ≡ csrs.is_csr (csrs.csr_at a)
 of-01 a =
     alike (is_one_of a csrs_of01) (csrs.is_csr (csrs.csr_at a))
     (each_of-at (λ b. csrs.is_csr (csrs.csr_at b) ≡ true) csrs_of01
-    (known c.Meivt refl, (known c.Meipt refl, (known c.Meicpct refl, (known c.Meicidpl refl, (known c.Meicurpl refl, (known c.Meihap refl, tt)))))) a)
+    (known c.Meivt, (known c.Meipt, (known c.Meicpct, (known c.Meicidpl, (known c.Meicurpl, (known c.Meihap, tt)))))) a)
     (λ e. go (csrs.csr_at a) refl e)
   where
-    at : (r : controller.Csr) → csrs.is_csr r ≡ true → csrs.csr_at a ≡ r → is_one_of (csrs.csr_address r) csrs_of01 ≡ true → is_one_of a csrs_of01 ≡ true
-    at r i h t = rw (csr-laws.csr-address a r (not_none r i) h) t
+    at : (r : controller.Csr) → csrs.csr_at a ≡ Some r → is_one_of (csrs.csr_address r) csrs_of01 ≡ true → is_one_of a csrs_of01 ≡ true
+    at r h t = rw (csr-laws.csr-address a r h) t
 
-    go : (r : controller.Csr) → csrs.csr_at a ≡ r → csrs.is_csr r ≡ true → is_one_of a csrs_of01 ≡ true
-    go c.Meivt h e = at c.Meivt e h refl
-    go c.Meipt h e = at c.Meipt e h refl
-    go c.Meicpct h e = at c.Meicpct e h refl
-    go c.Meicidpl h e = at c.Meicidpl e h refl
-    go c.Meicurpl h e = at c.Meicurpl e h refl
-    go c.Meihap h e = at c.Meihap e h refl
-    go c.NoCsr h e = never e
+    go : (r : Option controller.Csr) → csrs.csr_at a ≡ r → csrs.is_csr r ≡ true → is_one_of a csrs_of01 ≡ true
+    go (Some c.Meivt) h e = at c.Meivt h refl
+    go (Some c.Meipt) h e = at c.Meipt h refl
+    go (Some c.Meicpct) h e = at c.Meicpct h refl
+    go (Some c.Meicidpl) h e = at c.Meicidpl h refl
+    go (Some c.Meicurpl) h e = at c.Meicurpl h refl
+    go (Some c.Meihap) h e = at c.Meihap h refl
+    go None h e = never e
 
 -- The nine of the timers and of the error counters are those that they have.
-own : (r : Csr) → is_csr r ≡ true → of_counters (csr_address r) ≡ true
+own : (r : Csr) → is_csr (Some r) ≡ true → of_counters (csr_address r) ≡ true
 own r e = rw (address-csr r e) e
 
 abbrev csrs_of_counters : List ℕ
@@ -138,7 +136,7 @@ module _ (m : Machine) (e : sound_of m ≡ true) where
   may-write a h = go (eqb a 0xBCC) refl
     where
       go : (t : Bool) → eqb a 0xBCC ≡ t → (not t || eqb m.service.depth 0) ≡ true
-      go true f = never (sym h ∙ rw (eqb-true a 0xBCC f) (known c.Meicurpl refl))
+      go true f = never (sym h ∙ rw (eqb-true a 0xBCC f) (known c.Meicurpl))
       go false f = refl
 
   write-refused : (a v : ℕ) → csrs.is_csr (csrs.csr_at a) ≡ false → of_counters a ≡ false → csr_write_of m a v ≡ refused m 12
@@ -173,7 +171,7 @@ module _ (m : Machine) (e : sound_of m ≡ true) where
           counter (csrs.is_csr (csrs.csr_at a)) (eqb a 0xFC8) (eqb a 0xBCC) (eqb m.service.depth 0) (apart a 0xFC8 (omega arith) h) (apart a 0xBCC (omega arith) h)
       go false h =
           other (csrs.is_csr (csrs.csr_at a)) (eqb a 0xFC8) (eqb a 0xBCC) (eqb m.service.depth 0) (csr-calls.csr_write_of m.controller a v) (write-refusal m.controller a v)
-          (λ g. let z = eqb-true a 0xBCC g in (rw z (known c.Meicurpl refl), ne_eqb a 0xFC8 (λ y. omega (arith, y, z))))
+          (λ g. let z = eqb-true a 0xBCC g in (rw z (known c.Meicurpl), ne_eqb a 0xFC8 (λ y. omega (arith, y, z))))
 
   write_known : (a v : ℕ) → is_one_of_fifteen a ≡ true → (csr_write_of m a v).refusal ≡ 12 → ⊥
   write_known a v h z =
@@ -202,22 +200,25 @@ pub write-questions : WriteQuestions
 write-questions m a v e = first-no-writing m e a v
 
 -- A read and a write of a CSR of the counters.
-module _ (m : Machine) (e : sound_of m ≡ true) (r : Csr) (h : is_csr r ≡ true) where
-  counter-read : csr_read_of m (csr_address r) ≡ accepted m (csr_value m.counters r)
+module _ (m : Machine) (e : sound_of m ≡ true) (r : Csr) (h : is_csr (Some r) ≡ true) where
+  counter-read : csr_read_of m (csr_address r) ≡ accepted m (csr_value m.counters (Some r))
   unfolding csr_read_of csr_read_event
   counter-read = rw (e, address-csr r h, h)
 
-  counter-write : (v : ℕ) → csr_write_of m (csr_address r) v ≡ accepted (with_counters m (csr_written m.counters r v)) 0
+  counter-write : (v : ℕ) → csr_write_of m (csr_address r) v ≡ accepted (with_counters m (csr_written m.counters (Some r) v)) 0
   unfolding csr_write_of csr_write_event
   counter-write v = rw (e, address-csr r h, h)
 
 pub counters-written : CountersWritten
 counters-written m e r v h b =
-    let t = csr_written m.counters r v in
-    let s = counters-sound m t e (written-sound m.counters r v b (facts m e).counters) in
-    let w = written-each m.counters r v h in
+    let t = csr_written m.counters (Some r) v in
+    let s = counters-sound m t e (written-sound m.counters (Some r) v b (facts m e).counters) in
+    let w = written-each m.counters (Some r) v h in
     record {
       accepts = ap (λ (o : Outcome). o.refusal) (counter-write m e r h v);
       itself = rw (counter-write m e r h v, counter-read (with_counters m t) s r h) w.itself;
-      others = λ q i d. rw (counter-write m e r h v, counter-read (with_counters m t) s q i, counter-read m e q i) (w.others q d);
+      others = λ q i d. rw (counter-write m e r h v, counter-read (with_counters m t) s q i, counter-read m e q i) (w.others (Some q) (λ f. d (is f)));
     }
+  where
+    is : {q : Csr} → Some q ≡ Some r → q ≡ r
+    is f = cc

@@ -1,5 +1,5 @@
 -- Document 02, No. 1 and No. 5: question 12 "widens" to the CSRs of the timers and of the error counters; and what these CSRs keep, of the whole machine.
-use Rattle.std.specs.Prelude.{ℕ, ◌^◌, ◌<◌, ◌≡◌, Bool, true, false, cond, not, ◌||◌, List, [], ◌∷◌, ◌++◌, eqb}
+use Rattle.std.specs.Prelude.{ℕ, ◌^◌, ◌<◌, ◌≡◌, Some, Bool, true, false, cond, not, ◌||◌, List, [], ◌∷◌, ◌++◌, eqb}
 use Rattle.counters.specs.declared.Csr.{Csr}
 use Rattle.counters.specs.Csrs.{csr_address, is_csr}
 use Rattle.counters.specs.Each.{kept_by}
@@ -45,9 +45,9 @@ WriteQuestions = (m : Machine) (a v : ℕ) → sound_of m ≡ true → (csr_writ
 -- On a sound machine every CSR of a timer or of an error counter can be written and read: it reads what it kept of the value, and the other eight read as before.
 pub record WrittenTo (m : Machine) (r : Csr) (v : ℕ) : Type 0 where
   pub accepts : (csr_write_of m (csr_address r) v).refusal ≡ 0
-  pub itself : (csr_read_of (csr_write_of m (csr_address r) v).machine (csr_address r)).answer ≡ kept_by r v
-  pub others : (q : Csr) → is_csr q ≡ true → (q ≡ r → ⊥)
+  pub itself : (csr_read_of (csr_write_of m (csr_address r) v).machine (csr_address r)).answer ≡ kept_by (Some r) v
+  pub others : (q : Csr) → is_csr (Some q) ≡ true → (q ≡ r → ⊥)
       → (csr_read_of (csr_write_of m (csr_address r) v).machine (csr_address q)).answer ≡ (csr_read_of m (csr_address q)).answer
 
 abbrev pub CountersWritten : Type 0
-CountersWritten = (m : Machine) → sound_of m ≡ true → (r : Csr) (v : ℕ) → is_csr r ≡ true → v < 2 ^ 32 → WrittenTo m r v
+CountersWritten = (m : Machine) → sound_of m ≡ true → (r : Csr) (v : ℕ) → is_csr (Some r) ≡ true → v < 2 ^ 32 → WrittenTo m r v

@@ -1,6 +1,7 @@
 // Take, open, chain, return, set mask, look and commit, on mask and stack: their questions, what they do and what they answer.
 
 ghost use Rattle.std.specs.Prelude.{◌≡◌, ◌-◌, pos, if◌then◌else◌, int_lt, nat_eq, nat_lt};
+ghost use Rattle.questions.specs.Numbers.{number_in};
 ghost use Rattle.handlers_service.specs.Events.{pushed, take_of, with_uppermost, marked, open_of, serves_in, replaced, served, followed, chain_of, popped, return_of, set_mask_of, next_in, look_of, commit_of};
 
 use crate::{Outcome, Service};
@@ -10,19 +11,13 @@ use outcome::Answering;
 use pic::Look;
 use pic_comparator::Winner;
 use pic_source::Rank;
+use questions::Refusal;
 
 // Whether a margin is above 0.
 fn is_above(margin: i32) -> bool
     ensures { result ≡ int_lt (pos 0) margin }
 {
     0 < margin
-}
-
-// One handler less, 0 for none.
-fn one_less(depth: u8) -> u8
-    ensures { result ≡ depth - 1 }
-{
-    if depth == 0 { 0 } else { depth - 1 }
 }
 
 // Whether a chain in the handler h serves the winner of this look: it is of that handler's rank and above the threshold.
@@ -39,19 +34,23 @@ fn next_in(h: Handler, look: Look) -> u32
 {
     if serves_in(h, look) {
         let w = look.winner;
-        return w.source as u32;
+        return u32::from(w.source);
     }
     0
 }
 
-// Questions 17 and 19: 0 where a handler is open and the mask is 0, else the number of the first no.
-fn handler_question(depth: u8, mask: u8) -> u8
-    ensures { result ≡ (if nat_lt 0 depth then (if nat_eq mask 0 then 0 else 19) else 17) }
+// Questions 17 and 19: whether a handler is open, and the mask 0.
+#[tactic(auto, unfolding(questions::specs::Numbers::number_in, questions::specs::Numbers::number_of))]
+fn handler_question(depth: u8, mask: u8) -> Result<(), Refusal>
+    ensures { number_in result ≡ (if nat_lt 0 depth then (if nat_eq mask 0 then 0 else 19) else 17) }
 {
     if depth == 0 {
-        return 17;
+        return Err(Refusal::NoHandler);
     }
-    if mask == 0 { 0 } else { 19 }
+    if mask != 0 {
+        return Err(Refusal::InterruptsOn);
+    }
+    Ok(())
 }
 
 impl Service {
@@ -59,13 +58,12 @@ impl Service {
     fn with_uppermost(mut self, h: Handler) -> Service
         ensures { result ≡ with_uppermost self h }
     {
-        let s = self.stack;
-        let next = put(s, one_less(self.depth), h);
-        self.stack = next;
+        self.stack = put(self.stack, self.depth.saturating_sub(1), h);
         self
     }
 
     // Serves the winner of this look: it is pushed, unopened, with the current rank as saved.
+    #[tactic(auto, unfolding(crate::specs::Events::take_of))]
     pub fn take(mut self, look: Look, current: Rank) -> Outcome
         ensures { result ≡ take_of self look current }
     {
@@ -83,7 +81,6 @@ impl Service {
         ensures { result ≡ pushed self w current }
     {
         let d = self.depth;
-        let s = self.stack;
         let rank = w.rank;
         let h = Handler {
             source: w.source,
@@ -91,14 +88,14 @@ impl Service {
             saved: current,
             opened: 0,
         };
-        let stack = put(s, d, h);
-        self.stack = stack;
-        self.depth = std::num::wrapping_add_u8(d, 1);
+        self.stack = put(self.stack, d, h);
+        self.depth = d.wrapping_add(1);
         self.mask = 0;
         self
     }
 
     // Opens the uppermost handler: it can be interrupted again by a higher rank.
+    #[tactic(auto, unfolding(crate::specs::Events::open_of))]
     pub fn open(mut self) -> Outcome
         ensures { result ≡ open_of self }
     {
@@ -109,7 +106,7 @@ impl Service {
         if h.opened != 0 {
             return self.refuse(18);
         }
-        self.mark(h).accept(h.rank.0 as u32)
+        self.mark(h).accept(u32::from(h.rank.0))
     }
 
     // The uppermost handler, h, marked as opened, and the mask on.
@@ -122,12 +119,12 @@ impl Service {
     }
 
     // Serves the winner of this look in the uppermost handler's place, if it is of that handler's rank and above the threshold; else answers 0.
+    #[tactic(auto, unfolding(crate::specs::Events::chain_of, questions::specs::Numbers::number_in))]
     pub fn chain(mut self, look: Look) -> Outcome
         ensures { result ≡ chain_of self look }
     {
-        let q = handler_question(self.depth, self.mask);
-        if q != 0 {
-            return self.refuse(q);
+        if let Err(q) = handler_question(self.depth, self.mask) {
+            return self.refuse(u8::from(q));
         }
         self.follow(look)
     }
@@ -160,27 +157,28 @@ impl Service {
     }
 
     // Ends the uppermost handler.
+    #[tactic(auto, unfolding(crate::specs::Events::return_of))]
     pub fn return_from(mut self) -> Outcome
         ensures { result ≡ return_of self }
     {
         let d = self.depth;
-        let q = handler_question(d, self.mask);
-        if q != 0 {
-            return self.refuse(q);
+        if let Err(q) = handler_question(d, self.mask) {
+            return self.refuse(u8::from(q));
         }
-        self.pop().accept(one_less(d) as u32)
+        self.pop().accept(u32::from(d.saturating_sub(1)))
     }
 
     // One handler less, and the mask on.
     fn pop(mut self) -> Service
         ensures { result ≡ popped self }
     {
-        self.depth = one_less(self.depth);
+        self.depth = self.depth.saturating_sub(1);
         self.mask = 1;
         self
     }
 
     // Sets the mask to the value.
+    #[tactic(auto, unfolding(crate::specs::Events::set_mask_of))]
     pub fn set_mask(mut self, v: u32) -> Outcome
         ensures { result ≡ set_mask_of self v }
     {
@@ -196,24 +194,24 @@ impl Service {
     }
 
     // Answers the source that a chain would serve by this look, or 0.
+    #[tactic(auto, unfolding(crate::specs::Events::look_of))]
     pub fn look(mut self, look: Look) -> Outcome
         ensures { result ≡ look_of self look }
     {
-        let q = handler_question(self.depth, self.mask);
-        if q != 0 {
-            return self.refuse(q);
+        if let Err(q) = handler_question(self.depth, self.mask) {
+            return self.refuse(u8::from(q));
         }
         let h = self.uppermost();
         self.accept(next_in(h, look))
     }
 
     // Serves the source n in the uppermost handler's place, if it is what a look would answer now.
+    #[tactic(auto, unfolding(crate::specs::Events::commit_of))]
     pub fn commit(mut self, look: Look, n: u32) -> Outcome
         ensures { result ≡ commit_of self look n }
     {
-        let q = handler_question(self.depth, self.mask);
-        if q != 0 {
-            return self.refuse(q);
+        if let Err(q) = handler_question(self.depth, self.mask) {
+            return self.refuse(u8::from(q));
         }
         let h = self.uppermost();
         if !may_commit(n, next_in(h, look)) {

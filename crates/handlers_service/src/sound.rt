@@ -29,6 +29,7 @@ impl Service {
     }
 
     // What question 8 asks of mask and stack, with n sources and this current rank.
+    #[tactic(auto, unfolding(crate::specs::Sound::sound_of))]
     pub fn is_sound(self, n: u8, current: Rank) -> bool
         ensures { result ≡ sound_of self n current }
     {

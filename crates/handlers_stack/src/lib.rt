@@ -16,6 +16,7 @@ pub struct Handler {
 }
 
 // The current rank that goes with an uppermost handler.
+#[tactic(auto, unfolding(crate::specs::Stacks::level_of))]
 pub fn level(h: Handler) -> Rank
     ensures { result ≡ level_of h }
 {
@@ -35,6 +36,7 @@ pub fn no_handler() -> Handler
 }
 
 // One handler of n sources: top where it is the uppermost, lowest where it is that, below the rank of the handler under it.
+#[tactic(auto, unfolding(crate::specs::Stacks::handler_sound))]
 fn handler_sound(n: u8, top: bool, lowest: bool, below: Rank, h: Handler) -> bool
     ensures { result ≡ handler_sound n top lowest below h }
 {
@@ -84,13 +86,11 @@ pub fn handlers_sound(n: u8, depth: u8, stack: [Handler; 15]) -> bool
     let d = depth as usize;
     let mut ok = true;
     let mut below = Rank(0);
-    let mut k: usize = 0;
-    while k < d {
+    for k in 0..d {
         let h = handler_at(stack, k);
         let good = handler_sound(n, k + 1 == d, k == 0, below, h);
         ok = ok & good;
         below = h.rank;
-        k += 1;
     }
     ok
 }

@@ -8,7 +8,7 @@ use Rattle.pic.specs.Fields.{with_latch}
 use Rattle.pic_comparator.specs.declared.Winner.{Winner}
 use Rattle.pic_comparator.specs.Comparator.{no_winner, entry_of, better_of}
 use Rattle.pic_source.specs.Ranks.{field, rank_of}
-use Rattle.pic_source.specs.Sources.{latch_after, is_pending}
+use Rattle.pic_source.specs.Sources.{latch_after, is_pending, is_waiting}
 
 -- "meiplS, meipt, meicidpl and meicurpl hold fields; the rank is worked out from field and priord at use." The field and the rank of a source.
 abbrev pub field_at : Controller → ℕ → Field
@@ -52,6 +52,10 @@ settle_at c s = with_latch c (slice_set c.latch s (latch_after (line_at c s) (po
 -- Whether a source is pending.
 abbrev pub pending_at : Controller → ℕ → Bool
 pending_at c s = is_pending (trigger_at c s) (polarity_at c s) (line_at c s) (latch_at c s)
+
+-- Whether a source is enabled and pending: a source that waits to be served.
+abbrev pub waiting_at : Controller → ℕ → Bool
+waiting_at c s = is_waiting (enable_at c s) (trigger_at c s) (polarity_at c s) (line_at c s) (latch_at c s)
 
 -- It is eligible when enabled, pending and of rank 1 or more.
 unfoldable pub is_eligible : ℕ → Bool → Rank → Bool

@@ -13,25 +13,27 @@ use pic_source::ranks::{to_field, to_rank};
 fn higher(a: Rank, b: Rank) -> Rank
     ensures { result ≡ higher_of a b }
 {
-    if a.0 < b.0 { b } else { a }
+    Rank(a.0.max(b.0))
 }
 
 // The first rank minus the second.
 fn difference(a: Rank, b: Rank) -> i32
     ensures { result ≡ difference_of a b }
 {
-    (a.0 as i32) - (b.0 as i32)
+    i32::from(a.0) - i32::from(b.0)
 }
 
 // The word of meihap.
+#[tactic(auto, unfolding(crate::specs::Calls::meihap_of))]
 pub fn meihap(base: u32, claim: u8) -> u32
     ensures { result ≡ meihap_of base claim }
 {
-    std::num::wrapping_add_u32(base, 4 * (claim as u32))
+    base.wrapping_add(4 * u32::from(claim))
 }
 
 impl Controller {
     // N.
+    #[tactic(auto, unfolding(crate::specs::Calls::source_count))]
     pub fn source_count(self) -> u8
         ensures { result ≡ source_count self }
     {
@@ -39,12 +41,14 @@ impl Controller {
     }
 
     // Priord.
+    #[tactic(auto, unfolding(crate::specs::Calls::priority_order))]
     pub fn priority_order(self) -> u8
         ensures { result ≡ priority_order self }
     {
         self.scalars.priord
     }
 
+    #[tactic(auto, unfolding(crate::specs::Calls::current_rank))]
     pub fn current_rank(self) -> Rank
         ensures { result ≡ current_rank self }
     {
@@ -53,6 +57,7 @@ impl Controller {
     }
 
     // The controller with another current rank, as the layer above sets it.
+    #[tactic(auto, unfolding(crate::specs::Calls::set_current))]
     pub fn set_current(mut self, rank: Rank) -> Controller
         ensures { result ≡ set_current self rank }
     {
@@ -63,6 +68,7 @@ impl Controller {
     }
 
     // Claim and claimed from the winner w.
+    #[tactic(auto, unfolding(crate::specs::Calls::capture_of))]
     pub fn capture(mut self, w: Winner) -> Controller
         ensures { result ≡ capture_of self w }
     {

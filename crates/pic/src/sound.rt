@@ -10,6 +10,7 @@ use pic_source::Field;
 use source_count::is_count;
 
 // Whether the values of a source are sound.
+#[tactic(auto, unfolding(crate::specs::Sound::source_sound))]
 fn source_sound(field: Field, enable: u8, trigger: u8, polarity: u8, line: u8, latch: u8) -> bool
     ensures { result ≡ source_sound field enable trigger polarity line latch }
 {
@@ -48,6 +49,7 @@ fn with_sources(n: u8) -> Controller
 
 impl Controller {
     // The controller at power-on with n sources; where n is not 2..255, refusal 2 and the controller of 2 sources.
+    #[tactic(auto, unfolding(crate::specs::Calls::power_on_of))]
     pub fn power_on(n: u32) -> Outcome
         ensures { result ≡ power_on_of n }
     {
@@ -63,9 +65,7 @@ impl Controller {
     {
         let n = self.sources as usize;
         let mut ok = true;
-        let mut s: usize = 0;
-        while s < n {
-            s += 1;
+        for s in 1..n + 1 {
             ok = ok
                 & source_sound(
                     Field(self.field[s]),

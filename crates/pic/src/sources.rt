@@ -1,7 +1,7 @@
 // The winner, by a scan of the sources.
 
 ghost use Rattle.std.specs.Prelude.{◌≡◌};
-ghost use Rattle.pic.specs.Sources.{winner_of};
+ghost use Rattle.pic.specs.Sources.{waiting_at, winner_of};
 
 use crate::Controller;
 use pic_comparator::{Winner, better};
@@ -10,6 +10,20 @@ use pic_source::sources::waiting;
 use pic_source::{Field, Rank};
 
 impl Controller {
+    // Whether source s is enabled and pending.
+    pub fn waits(&self, s: u8) -> bool
+        ensures { result ≡ waiting_at self.now s }
+    {
+        let i = s as usize;
+        waiting(
+            self.enable[i],
+            self.trigger[i],
+            self.polarity[i],
+            self.line[i],
+            self.latch[i],
+        )
+    }
+
     // The winner: the eligible source of highest rank, of equals the lowest number. The rank of a source is worked out only where it is enabled and pending; a rank of
     // 0 is not above any, so it is not asked for.
     pub fn winner(self) -> Winner
@@ -21,16 +35,8 @@ impl Controller {
             source: 0,
             rank: Rank(0),
         };
-        let mut s: usize = 0;
-        while s < n {
-            s += 1;
-            if waiting(
-                self.enable[s],
-                self.trigger[s],
-                self.polarity[s],
-                self.line[s],
-                self.latch[s],
-            ) {
+        for s in 1..n + 1 {
+            if self.waits(s as u8) {
                 let e = Winner {
                     source: s as u8,
                     rank: to_rank(v.priord, Field(self.field[s])),

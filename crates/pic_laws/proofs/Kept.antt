@@ -1,6 +1,6 @@
 -- What the controller's calls keep: soundness, N, the current rank, and all of it where they only read or refuse.
 use Prim.Native.Nat.{ℕ, ◌*◌, ◌/◌, ◌%◌, ◌^◌, ◌≤◌, ◌<◌}
-use mathlib.Core.Path.{◌≡◌, refl, sym, ap, ◌∙◌}
+use mathlib.Core.Path.{◌≡◌, refl, sym, ap}
 use mathlib.Core.Bool.{Bool, true, false, cond, not}
 use native.Mathlib.Omega.{arith}
 use lib.ListN.{replicate, length-replicate, get_or-replicate}
@@ -10,10 +10,11 @@ use Rattle.pic.specs.declared.Controller.{Controller}
 use Rattle.pic.specs.declared.Scalars.{Scalars}
 use Rattle.pic.specs.Outcome.{Outcome}
 use Rattle.pic_source.specs.declared.Rank.{Rank}
+use Rattle.std.specs.Prelude.{Option, Some, None}
 use Rattle.pic_registers.specs.declared.Register.{Register}
-use Rattle.pic_registers.specs.declared.Register.TheVariants.{Meipl, Meip, Meie, Mpiccfg, Meigwctrl, Meigwclr, NoRegister}
+use Rattle.pic_registers.specs.declared.Register.TheVariants.{Meipl, Meip, Meie, Mpiccfg, Meigwctrl, Meigwclr}
 use Rattle.pic_csrs.specs.declared.Csr.{Csr}
-use Rattle.pic_csrs.specs.declared.Csr.TheVariants.{Meivt, Meipt, Meicpct, Meicidpl, Meicurpl, Meihap, NoCsr}
+use Rattle.pic_csrs.specs.declared.Csr.TheVariants.{Meivt, Meipt, Meicpct, Meicidpl, Meicurpl, Meihap}
 use Rattle.pic.specs.Fields.{with_scalars}
 use Rattle.pic_source.specs.Ranks.{field_of, rank_of}
 use Rattle.pic.specs.Sources.{current_of, winner_of}
@@ -30,7 +31,7 @@ use Rattle.pic_source.proofs.Bools.{and_parts}
 use Rattle.pic_source.proofs.Mirror.{mirror-small, rank-of-field, field-written}
 use Rattle.pic.proofs.Soundness.{Column, Base, Ranges, Sound, facts, sound, scalars-sound}
 use Rattle.pic.proofs.Winning.{winner-small}
-use Rattle.pic_registers.proofs.Offsets.{register-valid, register-offset, no-mpiccfg, aligned}
+use Rattle.pic_registers.proofs.Offsets.{register-valid, register-offset, aligned}
 use Rattle.pic_registers.proofs.Sounds.{written-field, sampled-sound, written-sound}
 use Rattle.pic_csrs.proofs.Addresses.{csr-address}
 
@@ -43,19 +44,19 @@ ask-keeps P c false q o a b = a
 base-written : (v : ℕ) → v < 2 ^ 32 → Base (v / 1024 * 1024)
 base-written v h = record { aligned = omega arith; fits = omega arith }
 
-csr-ranges : (n : ℕ) (s : Scalars) (r : Csr) (v : ℕ) → v < 2 ^ 32 → Ranges n s → Ranges n (csr_written s r v)
+csr-ranges : (n : ℕ) (s : Scalars) (r : Option Csr) (v : ℕ) → v < 2 ^ 32 → Ranges n s → Ranges n (csr_written s r v)
 unfolding csr_written
-csr-ranges n s Meivt v b h =
+csr-ranges n s (Some Meivt) v b h =
     record { priord = h.priord; base = base-written v b; claim = h.claim; threshold = h.threshold; claimed = h.claimed; current = h.current }
-csr-ranges n s Meipt v b h =
+csr-ranges n s (Some Meipt) v b h =
     record { priord = h.priord; base = h.base; claim = h.claim; threshold = written-field v; claimed = h.claimed; current = h.current }
-csr-ranges n s Meicpct v b h = h
-csr-ranges n s Meicidpl v b h =
+csr-ranges n s (Some Meicpct) v b h = h
+csr-ranges n s (Some Meicidpl) v b h =
     record { priord = h.priord; base = h.base; claim = h.claim; threshold = h.threshold; claimed = written-field v; current = h.current }
-csr-ranges n s Meicurpl v b h =
+csr-ranges n s (Some Meicurpl) v b h =
     record { priord = h.priord; base = h.base; claim = h.claim; threshold = h.threshold; claimed = h.claimed; current = written-field v }
-csr-ranges n s Meihap v b h = h
-csr-ranges n s NoCsr v b h = h
+csr-ranges n s (Some Meihap) v b h = h
+csr-ranges n s None v b h = h
 
 winner-captured : (c : Controller) → Sound c → Sound (capture_of c (winner_of c))
 unfolding capture_of
@@ -148,7 +149,7 @@ module _ {A : Type 0} (part : Controller → A) where
   same-sample c x v h = ask-keeps (SamePart c) c (leb x 7) 9 (accepts (sampled c x v) 0) refl h
 
   -- A store to the register whose offset it is.
-  pub same_store : (c : Controller) (o v : ℕ) → ((r : Register) → ((r ≡ NoRegister → ⊥) → offset_of r ≡ o) → part (written_of c r v) ≡ part c)
+  pub same_store : (c : Controller) (o v : ℕ) → ((r : Option Register) → ((q : Register) → r ≡ Some q → offset_of q ≡ o) → part (written_of c r v) ≡ part c)
       → part (store_of c o v).machine ≡ part c
   unfolding store_of
   same_store c o v h = go (eqb (offset_refusal o) 0) refl
@@ -156,7 +157,7 @@ module _ {A : Type 0} (part : Controller → A) where
       go : (t : Bool) → eqb (offset_refusal o) 0 ≡ t → part (asks c t (offset_refusal o) (accepts (written_of c (register_at c.sources o) v) 0)).machine ≡ part c
       go true f =
           h (register_at c.sources o)
-          (λ d. register-offset c.sources o (register_at c.sources o) (aligned o (eqb-true (offset_refusal o) 0 f)) refl d)
+          (λ q. register-offset c.sources o q (aligned o (eqb-true (offset_refusal o) 0 f)))
       go false f = refl
 
   pub same-csr-write : (c : Controller) (a v : ℕ) → part (capture_of c (winner_of c)) ≡ part c
@@ -171,46 +172,46 @@ module _ {A : Type 0} (part : Controller → A) where
       go false = h
 
 -- N and the current rank, as a store leaves them that does not switch priord.
-stored-count : (c : Controller) (v : ℕ) (r : Register) → source_count (written_of c r v) ≡ source_count c
+stored-count : (c : Controller) (v : ℕ) (r : Option Register) → source_count (written_of c r v) ≡ source_count c
 unfolding written_of source_count
-stored-count c v (Meipl s) = refl
-stored-count c v (Meip x) = refl
-stored-count c v (Meie s) = refl
-stored-count c v Mpiccfg = refl
-stored-count c v (Meigwctrl s) = refl
-stored-count c v (Meigwclr s) = refl
-stored-count c v NoRegister = refl
+stored-count c v (Some (Meipl s)) = refl
+stored-count c v (Some (Meip x)) = refl
+stored-count c v (Some (Meie s)) = refl
+stored-count c v (Some Mpiccfg) = refl
+stored-count c v (Some (Meigwctrl s)) = refl
+stored-count c v (Some (Meigwclr s)) = refl
+stored-count c v None = refl
 
-stored-current : (c : Controller) (v : ℕ) (r : Register) → (r ≡ Mpiccfg → v % 2 ≡ priority_order c) → current_rank (written_of c r v) ≡ current_rank c
+stored-current : (c : Controller) (v : ℕ) (r : Option Register) → (r ≡ Some Mpiccfg → v % 2 ≡ priority_order c) → current_rank (written_of c r v) ≡ current_rank c
 unfolding written_of current_rank priority_order
-stored-current c v (Meipl s) h = refl
-stored-current c v (Meip x) h = refl
-stored-current c v (Meie s) h = refl
-stored-current c v Mpiccfg h = ap (λ (p : ℕ). rank_of p c.scalars.current) (h refl)
-stored-current c v (Meigwctrl s) h = refl
-stored-current c v (Meigwclr s) h = refl
-stored-current c v NoRegister h = refl
+stored-current c v (Some (Meipl s)) h = refl
+stored-current c v (Some (Meip x)) h = refl
+stored-current c v (Some (Meie s)) h = refl
+stored-current c v (Some Mpiccfg) h = ap (λ (p : ℕ). rank_of p c.scalars.current) (h refl)
+stored-current c v (Some (Meigwctrl s)) h = refl
+stored-current c v (Some (Meigwclr s)) h = refl
+stored-current c v None h = refl
 
-csr-current : (s : Scalars) (v : ℕ) (r : Csr) → (r ≡ Meicurpl → ⊥) → current_of (csr_written s r v) ≡ current_of s
+csr-current : (s : Scalars) (v : ℕ) (r : Option Csr) → (r ≡ Some Meicurpl → ⊥) → current_of (csr_written s r v) ≡ current_of s
 unfolding csr_written
-csr-current s v Meivt d = refl
-csr-current s v Meipt d = refl
-csr-current s v Meicpct d = refl
-csr-current s v Meicidpl d = refl
-csr-current s v Meicurpl d = absurd (d refl)
-csr-current s v Meihap d = refl
-csr-current s v NoCsr d = refl
+csr-current s v (Some Meivt) d = refl
+csr-current s v (Some Meipt) d = refl
+csr-current s v (Some Meicpct) d = refl
+csr-current s v (Some Meicidpl) d = refl
+csr-current s v (Some Meicurpl) d = absurd (d refl)
+csr-current s v (Some Meihap) d = refl
+csr-current s v None d = refl
 
 -- No CSR write changes priord.
-pub csr-priord : (s : Scalars) (v : ℕ) (r : Csr) → (csr_written s r v).priord ≡ s.priord
+pub csr-priord : (s : Scalars) (v : ℕ) (r : Option Csr) → (csr_written s r v).priord ≡ s.priord
 unfolding csr_written
-csr-priord s v Meivt = refl
-csr-priord s v Meipt = refl
-csr-priord s v Meicpct = refl
-csr-priord s v Meicidpl = refl
-csr-priord s v Meicurpl = refl
-csr-priord s v Meihap = refl
-csr-priord s v NoCsr = refl
+csr-priord s v (Some Meivt) = refl
+csr-priord s v (Some Meipt) = refl
+csr-priord s v (Some Meicpct) = refl
+csr-priord s v (Some Meicidpl) = refl
+csr-priord s v (Some Meicurpl) = refl
+csr-priord s v (Some Meihap) = refl
+csr-priord s v None = refl
 
 -- Every call keeps N.
 pub sample-count : (c : Controller) (x v : ℕ) → source_count (sample_of c x v).machine ≡ source_count c
@@ -232,15 +233,12 @@ sample-current c x v = same-sample current_rank c x v refl
 pub store-current : (c : Controller) (o v : ℕ) → (o ≡ 0x3000 → v % 2 ≡ priority_order c) → current_rank (store_of c o v).machine ≡ current_rank c
 store-current c o v h =
     same_store current_rank c o v
-    (λ r k. stored-current c v r (λ z. h (sym (k (λ n. no-mpiccfg (sym z ∙ n))) ∙ ap offset_of z)))
+    (λ r k. stored-current c v r (λ z. h (sym (k Mpiccfg z))))
 
 pub csr-write-current : (c : Controller) (a v : ℕ) → (a ≡ 0xBCC → ⊥) → current_rank (csr_write_of c a v).machine ≡ current_rank c
 unfolding current_rank capture_of
 csr-write-current c a v d =
-    same-csr-write current_rank c a v refl (csr-current c.scalars v (csr_at a) (λ e. d (csr-address a Meicurpl (λ f. never-csr f) e)))
-  where
-    never-csr : Meicurpl ≡ NoCsr → ⊥
-    never-csr f = let z : ◌≡◌ {A = ℕ} 0 1 = cc in omega arith
+    same-csr-write current_rank c a v refl (csr-current c.scalars v (csr_at a) (λ e. d (csr-address a Meicurpl e)))
 
 -- A capture keeps both.
 pub capture-count : (c : Controller) → source_count (capture_of c (look_of c).winner) ≡ source_count c

@@ -17,19 +17,20 @@ use Rattle.pic_source.specs.declared.Rank.{Rank}
 use Rattle.pic_source.specs.declared.Field.{Field}
 use Rattle.pic_source.specs.Ranks.{field, mirror, rank_of}
 use Rattle.pic_source.specs.Sources.{is_source, latch_after}
+use Rattle.std.specs.Prelude.{Option, Some, None}
 use Rattle.pic_registers.specs.declared.Register.{Register}
-use Rattle.pic_registers.specs.declared.Register.TheVariants.{Meipl, Meip, Meie, Mpiccfg, Meigwctrl, Meigwclr, NoRegister}
+use Rattle.pic_registers.specs.declared.Register.TheVariants.{Meipl, Meip, Meie, Mpiccfg, Meigwctrl, Meigwclr}
 use Rattle.pic.specs.Sources.{field_at, rank_at, enable_at, pending_at, eligible_at, is_eligible, latch_at}
 use Rattle.pic.specs.Sound.{sound_of}
 use Rattle.pic.specs.Calls.{accepts, asks, source_count, priority_order, set_current, capture_of}
 use Rattle.pic_registers.specs.Registers.{sampled, written_of, clears}
-use Rattle.pic_registers.specs.Offsets.{offset_of, register_at, offset_refusal}
+use Rattle.pic_registers.specs.Offsets.{register_at, offset_refusal}
 use Rattle.pic_registers.specs.Calls.{sample_of, store_of}
 use Rattle.pic_csrs.specs.Addresses.{csr_at}
 use Rattle.pic_csrs.specs.Calls.{csr_write_of}
 use Rattle.pic_source.proofs.Bools.{never, eq-cases}
 use Rattle.pic.proofs.Soundness.{facts}
-use Rattle.pic_registers.proofs.Offsets.{offset-register, register-offset, register-valid, no-meipl, no-mpiccfg, meipl-at, meipl-accepted, aligned}
+use Rattle.pic_registers.proofs.Offsets.{offset-register, register-offset, register-valid, meipl-at, meipl-accepted, aligned}
 use Rattle.pic_registers.proofs.Follow.{Follows, sample-latch, store-latch, store-field, store-scalars}
 use Rattle.pic_laws.proofs.Kept.{ask-keeps, same_store, same-csr-write, csr-priord}
 
@@ -92,10 +93,10 @@ module _ {store : Type 0} {o : ℕ} (c : Controller) (s : ℕ) where
       record {
         field = λ d.
             same_store (λ (a : Controller). field_at a s) c o v
-            (λ r k. store-field c r v s (λ z. d is (sym (k (λ n. no-meipl (sym z ∙ n))) ∙ ap offset_of z)));
+            (λ r k. store-field c r v s (λ z. d is (sym (k (Meipl s) z))));
         priord = λ d.
             same_store priority_order c o v
-            (λ r k. ap (λ (a : Scalars). a.priord) (store-scalars c r v (λ z. d is (sym (k (λ n. no-mpiccfg (sym z ∙ n))) ∙ ap offset_of z))));
+            (λ r k. ap (λ (a : Scalars). a.priord) (store-scalars c r v (λ z. d is (sym (k Mpiccfg z)))));
       }
 
 -- N of a sound controller.
@@ -121,32 +122,29 @@ module _ (c : Controller) (e : sound_of c ≡ true) (s : ℕ) (a : 1 ≤ s) (b :
   sample-follows x v = ask-follows s (latch_at c s) c (leb x 7) 9 (accepts (sampled c x v) 0) (λ z. omega arith) (λ t z. sample-latch c x v (facts c e) s a here)
 
   -- The offset of a register whose store clears the latch of s is that of its meigwclr.
-  clears-only : (r : Register) → clears r s ≡ true → r ≡ Meigwclr s
-  clears-only (Meipl t) h = never h
-  clears-only (Meip x) h = never h
-  clears-only (Meie t) h = never h
-  clears-only Mpiccfg h = never h
-  clears-only (Meigwctrl t) h = never h
-  clears-only (Meigwclr t) h = ap Meigwclr (eqb-true t s h)
-  clears-only NoRegister h = never h
+  clears-only : (r : Option Register) → clears r s ≡ true → r ≡ Some (Meigwclr s)
+  clears-only (Some (Meipl t)) h = never h
+  clears-only (Some (Meip x)) h = never h
+  clears-only (Some (Meie t)) h = never h
+  clears-only (Some Mpiccfg) h = never h
+  clears-only (Some (Meigwctrl t)) h = never h
+  clears-only (Some (Meigwclr t)) h = ap (λ (n : ℕ). Some (Meigwclr n)) (eqb-true t s h)
+  clears-only None h = never h
 
   is-source : is_source c.sources s ≡ true
   is-source = rw (le-leb 1 s a, le-leb s c.sources here)
-
-  no_register : {t : ℕ} → Meigwclr t ≡ NoRegister → ⊥
-  no_register f = let z : ◌≡◌ {A = ℕ} 0 1 = cc in omega arith
 
   clears-at : (o : ℕ) → o % 4 ≡ 0 → clears (register_at c.sources o) s ≡ eqb o (0x5000 + 4 * s)
   clears-at o m = go (eq-cases o (0x5000 + 4 * s))
     where
       other : (t : Bool) → clears (register_at c.sources o) s ≡ t → (o ≡ 0x5000 + 4 * s → ⊥) → clears (register_at c.sources o) s ≡ false
       other false f d = f
-      other true f d = absurd (d (sym (register-offset c.sources o (Meigwclr s) m (clears-only (register_at c.sources o) f) no_register)))
+      other true f d = absurd (d (sym (register-offset c.sources o (Meigwclr s) m (clears-only (register_at c.sources o) f))))
 
       go : (o ≡ 0x5000 + 4 * s) ⊎ (o ≡ 0x5000 + 4 * s → ⊥) → clears (register_at c.sources o) s ≡ eqb o (0x5000 + 4 * s)
       go (inl z) =
-          let r : register_at c.sources o ≡ Meigwclr s = ap (register_at c.sources) z ∙ offset-register c.sources (facts c e).most (Meigwclr s) is-source no_register in
-          ap (λ (q : Register). clears q s) r ∙ eq-eqb s s refl ∙ sym (eq-eqb o (0x5000 + 4 * s) z)
+          let r : register_at c.sources o ≡ Some (Meigwclr s) = ap (register_at c.sources) z ∙ offset-register c.sources (facts c e).most (Meigwclr s) is-source in
+          ap (λ (q : Option Register). clears q s) r ∙ eq-eqb s s refl ∙ sym (eq-eqb o (0x5000 + 4 * s) z)
       go (inr d) = other (clears (register_at c.sources o) s) refl d ∙ sym (ne_eqb o (0x5000 + 4 * s) d)
 
   pub store-follows : (o v : ℕ) → AcceptedFollows s (cond (eqb o (0x5000 + 4 * s)) 0 (latch_at c s)) (store_of c o v)

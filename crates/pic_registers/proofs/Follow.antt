@@ -9,8 +9,9 @@ use lib.ListN.{length, get_or, set, length-set}
 use lib.Seq.{get_or-set_same, get_or-set_other}
 use lib.Dec.{eqb}
 use borrow.Author.Tests.{le-leb, eq-eqb, ne_eqb}
+use Rattle.std.specs.Prelude.{Option, Some, None}
 use Rattle.pic_registers.specs.declared.Register.{Register}
-use Rattle.pic_registers.specs.declared.Register.TheVariants.{Meipl, Meip, Meie, Mpiccfg, Meigwctrl, Meigwclr, NoRegister}
+use Rattle.pic_registers.specs.declared.Register.TheVariants.{Meipl, Meip, Meie, Mpiccfg, Meigwctrl, Meigwclr}
 use Rattle.pic.specs.declared.Controller.{Controller}
 use Rattle.pic.specs.Fields.{with_trigger, with_polarity, with_latch}
 use Rattle.pic_source.specs.Sources.{is_source, latch_after}
@@ -59,47 +60,47 @@ cleared l t s h = go (eq-cases t s)
     go (inl e) = rw (eq-eqb t s e, ← e, get_or-set_same l t 0 0 h)
     go (inr n) = rw (ne_eqb t s n, get_or-set_other l t s 0 0 (λ z. n (sym z)))
 
-pub store-latch : (c : Controller) (r : Register) (v : ℕ) → Sound c → is_register c.sources r ≡ true → (s : ℕ) → 1 ≤ s → s ≤ c.sources
+pub store-latch : (c : Controller) (r : Option Register) (v : ℕ) → Sound c → is_register c.sources r ≡ true → (s : ℕ) → 1 ≤ s → s ≤ c.sources
     → latch_at (written_of c r v) s ≡ latch_after (line_at (written_of c r v) s) (polarity_at (written_of c r v) s) (cond (clears r s) 0 (latch_at c s))
 unfolding written_of
-store-latch c (Meipl t) v h i s a b = sym (h.latched s a b)
-store-latch c (Meip x) v h i s a b = sym (h.latched s a b)
-store-latch c (Meie t) v h i s a b = sym (h.latched s a b)
-store-latch c Mpiccfg v h i s a b = sym (h.latched s a b)
-store-latch c (Meigwctrl t) v h i s a b =
+store-latch c (Some (Meipl t)) v h i s a b = sym (h.latched s a b)
+store-latch c (Some (Meip x)) v h i s a b = sym (h.latched s a b)
+store-latch c (Some (Meie t)) v h i s a b = sym (h.latched s a b)
+store-latch c (Some Mpiccfg) v h i s a b = sym (h.latched s a b)
+store-latch c (Some (Meigwctrl t)) v h i s a b =
     settled_at (with_polarity (with_trigger c (set c.trigger t (v / 2 % 2))) (set c.polarity t (v % 2))) t s
     (omega (arith, h.columns.latch.long, (source-range c.sources t i).1))
     (λ n. rw (get_or-set_other c.polarity t s (v % 2) 0 n) (h.latched s a b))
-store-latch c (Meigwclr t) v h i s a b =
+store-latch c (Some (Meigwclr t)) v h i s a b =
     let l : t < length c.latch = omega (arith, h.columns.latch.long, (source-range c.sources t i).1) in
     rw (← cleared c.latch t s l)
     (settled_at (with_latch c (set c.latch t 0)) t s (rw (length-set c.latch t 0) l)
     (λ n. rw (get_or-set_other c.latch t s 0 0 n) (h.latched s a b)))
-store-latch c NoRegister v h i s a b = sym (h.latched s a b)
+store-latch c None v h i s a b = sym (h.latched s a b)
 
 -- A store changes no field but that of its own register,
-pub store-field : (c : Controller) (r : Register) (v s : ℕ) → (r ≡ Meipl s → ⊥) → field_at (written_of c r v) s ≡ field_at c s
+pub store-field : (c : Controller) (r : Option Register) (v s : ℕ) → (r ≡ Some (Meipl s) → ⊥) → field_at (written_of c r v) s ≡ field_at c s
 unfolding written_of
-store-field c (Meipl t) v s d = rw (get_or-set_other c.field t s (v % 16) 0 (λ e. d (ap Meipl (sym e))))
-store-field c (Meip x) v s d = refl
-store-field c (Meie t) v s d = refl
-store-field c Mpiccfg v s d = refl
-store-field c (Meigwctrl t) v s d = refl
-store-field c (Meigwclr t) v s d = refl
-store-field c NoRegister v s d = refl
+store-field c (Some (Meipl t)) v s d = rw (get_or-set_other c.field t s (v % 16) 0 (λ e. d (ap (λ (n : ℕ). Some (Meipl n)) (sym e))))
+store-field c (Some (Meip x)) v s d = refl
+store-field c (Some (Meie t)) v s d = refl
+store-field c (Some Mpiccfg) v s d = refl
+store-field c (Some (Meigwctrl t)) v s d = refl
+store-field c (Some (Meigwclr t)) v s d = refl
+store-field c None v s d = refl
 
 -- and no scalar but priord, where it is to mpiccfg.
-pub store-scalars : (c : Controller) (r : Register) (v : ℕ) → (r ≡ Mpiccfg → ⊥) → (written_of c r v).scalars ≡ c.scalars
+pub store-scalars : (c : Controller) (r : Option Register) (v : ℕ) → (r ≡ Some Mpiccfg → ⊥) → (written_of c r v).scalars ≡ c.scalars
 unfolding written_of
-store-scalars c (Meipl t) v d = refl
-store-scalars c (Meip x) v d = refl
-store-scalars c (Meie t) v d = refl
-store-scalars c Mpiccfg v d = absurd (d refl)
-store-scalars c (Meigwctrl t) v d = refl
-store-scalars c (Meigwclr t) v d = refl
-store-scalars c NoRegister v d = refl
+store-scalars c (Some (Meipl t)) v d = refl
+store-scalars c (Some (Meip x)) v d = refl
+store-scalars c (Some (Meie t)) v d = refl
+store-scalars c (Some Mpiccfg) v d = absurd (d refl)
+store-scalars c (Some (Meigwctrl t)) v d = refl
+store-scalars c (Some (Meigwclr t)) v d = refl
+store-scalars c None v d = refl
 
 -- A field reads as 0..15.
-pub read-field : (c : Controller) (s : ℕ) → Sound c → is_source c.sources s ≡ true → read_of c (Meipl s) ≤ 15
+pub read-field : (c : Controller) (s : ℕ) → Sound c → is_source c.sources s ≡ true → read_of c (Some (Meipl s)) ≤ 15
 unfolding read_of
 read-field c s h i = let r = source-range c.sources s i in h.columns.field.each s r.0 r.1

@@ -5,11 +5,19 @@ use mathlib.Core.Bool.{Bool, true, false, cond}
 use native.Mathlib.Omega.{arith}
 use lib.Dec.{eqb, ltb}
 use borrow.Author.Tests.{eqb-true, ltb-true, lt-ltb}
+use Rattle.std.specs.Prelude.{Some, None}
 use Rattle.pic_registers.specs.declared.Register.{Register}
-use Rattle.pic_registers.specs.declared.Register.TheVariants.{Meipl, Meip, Meie, Mpiccfg, Meigwctrl, Meigwclr, NoRegister}
+use Rattle.pic_registers.specs.declared.Register.TheVariants.{Meipl, Meip, Meie, Mpiccfg, Meigwctrl, Meigwclr}
 use Rattle.pic_source.specs.Sources.{is_source}
 use Rattle.pic_registers.specs.Offsets.{offset_of, is_register, source_register, page_register, register_at, offset_refusal}
 use Rattle.pic_source.proofs.Ranges.{source-range}
+
+-- A register that is there is one, and the one that it is.
+no-some : {r : Register} → Some r ≡ None → ⊥
+no-some f = cc
+
+some-is : {q r : Register} → Some q ≡ Some r → q ≡ r
+some-is f = cc
 
 -- The page and the word of an offset in it.
 at-page : (n p i : ℕ) (o : ℕ) → i < 1024 → o ≡ 4096 * p + 4 * i → register_at n o ≡ page_register n p i
@@ -19,37 +27,36 @@ at-page n p i o h e =
     rw (a, b)
 
 -- The register of an offset of 01's table.
-pub offset-register : (n : ℕ) → n ≤ 255 → (r : Register) → is_register n r ≡ true → (r ≡ NoRegister → ⊥) → register_at n (offset_of r) ≡ r
+pub offset-register : (n : ℕ) → n ≤ 255 → (r : Register) → is_register n (Some r) ≡ true → register_at n (offset_of r) ≡ Some r
 unfolding page_register source_register
-offset-register n h (Meipl s) e d = let r = source-range n s e in at-page n 0 s (4 * s) (omega arith) (omega arith) ∙ rw e
-offset-register n h (Meip x) e d = let l = ltb-true x 8 e in at-page n 1 x (0x1000 + 4 * x) (omega arith) (omega arith) ∙ rw e
-offset-register n h (Meie s) e d = let r = source-range n s e in at-page n 2 s (0x2000 + 4 * s) (omega arith) (omega arith) ∙ rw e
-offset-register n h Mpiccfg e d = refl
-offset-register n h (Meigwctrl s) e d = let r = source-range n s e in at-page n 4 s (0x4000 + 4 * s) (omega arith) (omega arith) ∙ rw e
-offset-register n h (Meigwclr s) e d = let r = source-range n s e in at-page n 5 s (0x5000 + 4 * s) (omega arith) (omega arith) ∙ rw e
-offset-register n h NoRegister e d = absurd (d refl)
+offset-register n h (Meipl s) e = let r = source-range n s e in at-page n 0 s (4 * s) (omega arith) (omega arith) ∙ rw e
+offset-register n h (Meip x) e = let l = ltb-true x 8 e in at-page n 1 x (0x1000 + 4 * x) (omega arith) (omega arith) ∙ rw e
+offset-register n h (Meie s) e = let r = source-range n s e in at-page n 2 s (0x2000 + 4 * s) (omega arith) (omega arith) ∙ rw e
+offset-register n h Mpiccfg e = refl
+offset-register n h (Meigwctrl s) e = let r = source-range n s e in at-page n 4 s (0x4000 + 4 * s) (omega arith) (omega arith) ∙ rw e
+offset-register n h (Meigwclr s) e = let r = source-range n s e in at-page n 5 s (0x5000 + 4 * s) (omega arith) (omega arith) ∙ rw e
 
 -- The offset of the register at a multiple of four.
-pub register-offset : (n o : ℕ) (r : Register) → o % 4 ≡ 0 → register_at n o ≡ r → (r ≡ NoRegister → ⊥) → offset_of r ≡ o
+pub register-offset : (n o : ℕ) (r : Register) → o % 4 ≡ 0 → register_at n o ≡ Some r → offset_of r ≡ o
 unfolding page_register source_register
-register-offset n o r m e d =
+register-offset n o r m e =
     paged (eqb (o / 4096) 1) refl (ltb (o % 4096 / 4) 8) (eqb (o / 4096) 3) refl (eqb (o % 4096 / 4) 0) refl (is_source n (o % 4096 / 4))
     (eqb (o / 4096) 0) refl (eqb (o / 4096) 2) refl (eqb (o / 4096) 4) refl (eqb (o / 4096) 5) refl e
   where
-    is : {q : Register} → q ≡ r → offset_of q ≡ o → offset_of r ≡ o
-    is f g = ap offset_of (sym f) ∙ g
+    is : {q : Register} → Some q ≡ Some r → offset_of q ≡ o → offset_of r ≡ o
+    is f g = ap offset_of (sym (some-is f)) ∙ g
 
-    none : {A : Type 0} → NoRegister ≡ r → A
-    none f = absurd (d (sym f))
+    none : {A : Type 0} → None ≡ Some r → A
+    none f = absurd (no-some (sym f))
 
     paged : (a : Bool) → eqb (o / 4096) 1 ≡ a → (b : Bool) → (k : Bool) → eqb (o / 4096) 3 ≡ k → (z : Bool) → eqb (o % 4096 / 4) 0 ≡ z → (s : Bool)
         → (p0 : Bool) → eqb (o / 4096) 0 ≡ p0 → (p2 : Bool) → eqb (o / 4096) 2 ≡ p2 → (p4 : Bool) → eqb (o / 4096) 4 ≡ p4 → (p5 : Bool) → eqb (o / 4096) 5 ≡ p5
-        → cond a (cond b (Meip (o % 4096 / 4)) NoRegister)
-        (cond k (cond z Mpiccfg NoRegister)
+        → cond a (cond b (Some (Meip (o % 4096 / 4))) None)
+        (cond k (cond z (Some Mpiccfg) None)
         (cond s
-        (cond p0 (Meipl (o % 4096 / 4)) (cond p2 (Meie (o % 4096 / 4)) (cond p4 (Meigwctrl (o % 4096 / 4)) (cond p5 (Meigwclr (o % 4096 / 4)) NoRegister))))
-        NoRegister))
-        ≡ r
+        (cond p0 (Some (Meipl (o % 4096 / 4))) (cond p2 (Some (Meie (o % 4096 / 4))) (cond p4 (Some (Meigwctrl (o % 4096 / 4))) (cond p5 (Some (Meigwclr (o % 4096 / 4))) None))))
+        None))
+        ≡ Some r
         → offset_of r ≡ o
     paged true ha true k hk z hz s p0 h0 p2 h2 p4 h4 p5 h5 f = let h = eqb-true (o / 4096) 1 ha in is f (omega arith)
     paged true ha false k hk z hz s p0 h0 p2 h2 p4 h4 p5 h5 f = none f
@@ -71,7 +78,7 @@ unfolding source_register
 source-valid n page s h = go (eqb page 0) (eqb page 2) (eqb page 4) (eqb page 5)
   where
     go : (a b d e : Bool)
-        → is_register n (cond a (Meipl s) (cond b (Meie s) (cond d (Meigwctrl s) (cond e (Meigwclr s) NoRegister)))) ≡ true
+        → is_register n (cond a (Some (Meipl s)) (cond b (Some (Meie s)) (cond d (Some (Meigwctrl s)) (cond e (Some (Meigwclr s)) None)))) ≡ true
     go true b d e = h
     go false true d e = h
     go false false true e = h
@@ -86,8 +93,8 @@ register-valid n offset =
   where
     go : (a b : Bool) → ltb (offset % 4096 / 4) 8 ≡ b → (d e f : Bool) → is_source n (offset % 4096 / 4) ≡ f
         → is_register n
-        (cond a (cond b (Meip (offset % 4096 / 4)) NoRegister)
-        (cond d (cond e Mpiccfg NoRegister) (cond f (source_register (offset / 4096) (offset % 4096 / 4)) NoRegister)))
+        (cond a (cond b (Some (Meip (offset % 4096 / 4))) None)
+        (cond d (cond e (Some Mpiccfg) None) (cond f (source_register (offset / 4096) (offset % 4096 / 4)) None)))
         ≡ true
     go true true p d e f q = p
     go true false p d e f q = refl
@@ -97,11 +104,8 @@ register-valid n offset =
     go false b p false e false q = refl
 
 -- meiplS is at 4 × S, which passes 10 and 11.
-pub no-meipl : {s : ℕ} → Meipl s ≡ NoRegister → ⊥
-no-meipl f = let z : ◌≡◌ {A = ℕ} 0 1 = cc in omega arith
-
-pub meipl-at : (n s : ℕ) → n ≤ 255 → is_source n s ≡ true → register_at n (4 * s) ≡ Meipl s
-meipl-at n s h i = offset-register n h (Meipl s) i no-meipl
+pub meipl-at : (n s : ℕ) → n ≤ 255 → is_source n s ≡ true → register_at n (4 * s) ≡ Some (Meipl s)
+meipl-at n s h i = offset-register n h (Meipl s) i
 
 pub meipl-accepted : (n s : ℕ) → n ≤ 255 → is_source n s ≡ true → offset_refusal (4 * s) ≡ 0
 unfolding offset_refusal
@@ -109,10 +113,6 @@ meipl-accepted n s h i =
     let r = source-range n s i in
     let m : 4 * s % 4 ≡ 0 = omega arith in
     rw (lt-ltb (4 * s) 0x8000 (omega arith), m)
-
--- mpiccfg is a register.
-pub no-mpiccfg : Mpiccfg ≡ NoRegister → ⊥
-no-mpiccfg f = let z : ◌≡◌ {A = ℕ} 0 1 = cc in omega arith
 
 -- An offset that passes 10 and 11 is a multiple of 4.
 pub aligned : (o : ℕ) → offset_refusal o ≡ 0 → o % 4 ≡ 0

@@ -6,8 +6,9 @@ use mathlib.Core.List.{List}
 use native.Mathlib.Omega.{arith}
 use lib.ListN.{get_or, set}
 use lib.Dec.{eqb}
+use Rattle.std.specs.Prelude.{Option, Some, None}
 use Rattle.pic_registers.specs.declared.Register.{Register}
-use Rattle.pic_registers.specs.declared.Register.TheVariants.{Meipl, Meip, Meie, Mpiccfg, Meigwctrl, Meigwclr, NoRegister}
+use Rattle.pic_registers.specs.declared.Register.TheVariants.{Meipl, Meip, Meie, Mpiccfg, Meigwctrl, Meigwclr}
 use Rattle.pic.specs.declared.Controller.{Controller}
 use Rattle.pic.specs.Fields.{with_priord}
 use Rattle.pic_source.specs.Sources.{is_source, latch_after}
@@ -71,11 +72,11 @@ sampled-sound c x v h =
         after_small (bit_of v y) (polarity_at c (source_of x y)) (latch_at c (source_of x y)) (h.columns.latch.each (source_of x y) r.0 r.1)
 
 -- A store changes one column, or two and a latch.
-pub written-sound : (c : Controller) (r : Register) (v : ℕ) → is_register c.sources r ≡ true → Sound c → Sound (written_of c r v)
+pub written-sound : (c : Controller) (r : Option Register) (v : ℕ) → is_register c.sources r ≡ true → Sound c → Sound (written_of c r v)
 unfolding written_of
-written-sound c (Meipl s) v i h =
+written-sound c (Some (Meipl s)) v i h =
     let k = h.columns in
-    columns-sound c (written_of c (Meipl s) v) h refl refl
+    columns-sound c (written_of c (Some (Meipl s)) v) h refl refl
     (record {
       field = column-set s (v % 16) (written-field v) k.field;
       enable = k.enable;
@@ -85,10 +86,10 @@ written-sound c (Meipl s) v i h =
       latch = k.latch;
     })
     h.latched
-written-sound c (Meip x) v i h = h
-written-sound c (Meie s) v i h =
+written-sound c (Some (Meip x)) v i h = h
+written-sound c (Some (Meie s)) v i h =
     let k = h.columns in
-    columns-sound c (written_of c (Meie s) v) h refl refl
+    columns-sound c (written_of c (Some (Meie s)) v) h refl refl
     (record {
       field = k.field;
       enable = column-set s (v % 2) (small v) k.enable;
@@ -98,7 +99,7 @@ written-sound c (Meie s) v i h =
       latch = k.latch;
     })
     h.latched
-written-sound c Mpiccfg v i h =
+written-sound c (Some Mpiccfg) v i h =
     let r = h.ranges in
     scalars-sound c (with_priord c.scalars (v % 2)) h
     (record {
@@ -109,21 +110,21 @@ written-sound c Mpiccfg v i h =
       claimed = r.claimed;
       current = r.current;
     })
-written-sound c (Meigwctrl s) v i h =
+written-sound c (Some (Meigwctrl s)) v i h =
     let k = h.columns in
-    columns-sound c (written_of c (Meigwctrl s) v) h refl refl
+    columns-sound c (written_of c (Some (Meigwctrl s)) v) h refl refl
     (record {
       field = k.field;
       enable = k.enable;
       trigger = column-set s (v / 2 % 2) (small (v / 2)) k.trigger;
       polarity = column-set s (v % 2) (small v) k.polarity;
       line = k.line;
-      latch = latch-column (line_at c s) (polarity_at (written_of c (Meigwctrl s) v) s) s i k.latch;
+      latch = latch-column (line_at c s) (polarity_at (written_of c (Some (Meigwctrl s)) v) s) s i k.latch;
     })
-    (λ t a b. follows-settled (line_at c t) (polarity_at (written_of c (Meigwctrl s) v) t) (latch_at c t) (store-latch c (Meigwctrl s) v h i t a b))
-written-sound c (Meigwclr s) v i h =
+    (λ t a b. follows-settled (line_at c t) (polarity_at (written_of c (Some (Meigwctrl s)) v) t) (latch_at c t) (store-latch c (Some (Meigwctrl s)) v h i t a b))
+written-sound c (Some (Meigwclr s)) v i h =
     let k = h.columns in
-    columns-sound c (written_of c (Meigwclr s) v) h refl refl
+    columns-sound c (written_of c (Some (Meigwclr s)) v) h refl refl
     (record {
       field = k.field;
       enable = k.enable;
@@ -132,5 +133,5 @@ written-sound c (Meigwclr s) v i h =
       line = k.line;
       latch = latch-column (line_at c s) (polarity_at c s) s i (column-set s 0 (omega arith) k.latch);
     })
-    (λ t a b. follows-settled (line_at c t) (polarity_at c t) (cond (eqb s t) 0 (latch_at c t)) (store-latch c (Meigwclr s) v h i t a b))
-written-sound c NoRegister v i h = h
+    (λ t a b. follows-settled (line_at c t) (polarity_at c t) (cond (eqb s t) 0 (latch_at c t)) (store-latch c (Some (Meigwclr s)) v h i t a b))
+written-sound c None v i h = h

@@ -1,8 +1,8 @@
 -- Document 01, "Events and registers": the offsets.
-use Rattle.std.specs.Prelude.{ℕ, ◌+◌, ◌*◌, ◌/◌, ◌%◌, Bool, true, cond, ltb, eqb}
+use Rattle.std.specs.Prelude.{ℕ, ◌+◌, ◌*◌, ◌/◌, ◌%◌, Bool, true, cond, ltb, eqb, Option, Some, None}
 use Rattle.pic_source.specs.Sources.{is_source}
 use Rattle.pic_registers.specs.declared.Register.{Register}
-use Rattle.pic_registers.specs.declared.Register.TheVariants.{Meipl, Meip, Meie, Mpiccfg, Meigwctrl, Meigwclr, NoRegister}
+use Rattle.pic_registers.specs.declared.Register.TheVariants.{Meipl, Meip, Meie, Mpiccfg, Meigwctrl, Meigwclr}
 
 -- Offsets (S in 1..N): 4 × S meiplS; 0x1000 + 4 × X (X 0..7) meipX; 0x2000 + 4 × S meieS; 0x3000 mpiccfg; 0x4000 + 4 × S meigwctrlS;
 -- 0x5000 + 4 × S meigwclrS. Other offsets hold no register.
@@ -13,35 +13,34 @@ offset_of (Meie s) = 0x2000 + 4 * s
 offset_of Mpiccfg = 0x3000
 offset_of (Meigwctrl s) = 0x4000 + 4 * s
 offset_of (Meigwclr s) = 0x5000 + 4 * s
-offset_of NoRegister = 0
 
 -- Whether a controller of n sources can have it: S in 1..N, X 0..7.
-abbrev pub is_register : ℕ → Register → Bool
-is_register n (Meipl s) = is_source n s
-is_register n (Meip x) = ltb x 8
-is_register n (Meie s) = is_source n s
-is_register n Mpiccfg = true
-is_register n (Meigwctrl s) = is_source n s
-is_register n (Meigwclr s) = is_source n s
-is_register n NoRegister = true
+abbrev pub is_register : ℕ → Option Register → Bool
+is_register n (Some (Meipl s)) = is_source n s
+is_register n (Some (Meip x)) = ltb x 8
+is_register n (Some (Meie s)) = is_source n s
+is_register n (Some Mpiccfg) = true
+is_register n (Some (Meigwctrl s)) = is_source n s
+is_register n (Some (Meigwclr s)) = is_source n s
+is_register n None = true
 
 -- The register at an offset, by its page of 4,096 bytes and its word i in that page. `offset-register` and `register-offset` of the laws say that it
 -- is the one whose offset it is.
-unfoldable pub source_register : ℕ → ℕ → Register
+unfoldable pub source_register : ℕ → ℕ → Option Register
 source_register page s =
-    cond (eqb page 0) (Meipl s)
-    (cond (eqb page 2) (Meie s)
-    (cond (eqb page 4) (Meigwctrl s)
-    (cond (eqb page 5) (Meigwclr s)
-    NoRegister)))
+    cond (eqb page 0) (Some (Meipl s))
+    (cond (eqb page 2) (Some (Meie s))
+    (cond (eqb page 4) (Some (Meigwctrl s))
+    (cond (eqb page 5) (Some (Meigwclr s))
+    None)))
 
-unfoldable pub page_register : ℕ → ℕ → ℕ → Register
+unfoldable pub page_register : ℕ → ℕ → ℕ → Option Register
 page_register n page i =
-    cond (eqb page 1) (cond (ltb i 8) (Meip i) NoRegister)
-    (cond (eqb page 3) (cond (eqb i 0) Mpiccfg NoRegister)
-    (cond (is_source n i) (source_register page i) NoRegister))
+    cond (eqb page 1) (cond (ltb i 8) (Some (Meip i)) None)
+    (cond (eqb page 3) (cond (eqb i 0) (Some Mpiccfg) None)
+    (cond (is_source n i) (source_register page i) None))
 
-abbrev pub register_at : ℕ → ℕ → Register
+abbrev pub register_at : ℕ → ℕ → Option Register
 register_at n offset = page_register n (offset / 4096) (offset % 4096 / 4)
 
 -- 10. Is the offset below 0x8000? 11. Is it a multiple of 4? The number of the first no, else 0.

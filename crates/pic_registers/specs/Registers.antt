@@ -1,8 +1,8 @@
 -- Document 01, "Events and registers": the samples, what a register reads, and what a store changes.
-use Rattle.std.specs.Prelude.{ℕ, ◌+◌, ◌*◌, ◌/◌, ◌%◌, Bool, false, ◌&&◌, set, eqb}
+use Rattle.std.specs.Prelude.{ℕ, ◌+◌, ◌*◌, ◌/◌, ◌%◌, Bool, false, ◌&&◌, set, eqb, Option, Some, None}
 use Rattle.pic_source.specs.Sources.{is_source, latch_after}
 use Rattle.pic_registers.specs.declared.Register.{Register}
-use Rattle.pic_registers.specs.declared.Register.TheVariants.{Meipl, Meip, Meie, Mpiccfg, Meigwctrl, Meigwclr, NoRegister}
+use Rattle.pic_registers.specs.declared.Register.TheVariants.{Meipl, Meip, Meie, Mpiccfg, Meigwctrl, Meigwclr}
 use Rattle.pic.specs.declared.Controller.{Controller}
 use Rattle.pic.specs.Fields.{with_field, with_enable, with_trigger, with_polarity, with_line, with_latch, with_scalars, with_priord}
 use Rattle.pic.specs.Sources.{field_at, enable_at, trigger_at, polarity_at, latch_at, pending_at, settle_at}
@@ -26,32 +26,32 @@ pending_word c x = word_of_bits (pending_bit c x)
 
 -- What a register reads: meiplS the field that it holds, bits 3:0; meipX pending bits; meieS bit 0; mpiccfg, bit 0 priord; meigwctrlS, bit 1 type, bit 0 polarity;
 -- meigwclrS reads 0. Other bits read 0. Other offsets read 0.
-unfoldable pub read_of : Controller → Register → ℕ
-read_of c (Meipl s) = (field_at c s).0
-read_of c (Meip x) = pending_word c x
-read_of c (Meie s) = enable_at c s
-read_of c Mpiccfg = c.scalars.priord
-read_of c (Meigwctrl s) = 2 * trigger_at c s + polarity_at c s
-read_of c (Meigwclr s) = 0
-read_of c NoRegister = 0
+unfoldable pub read_of : Controller → Option Register → ℕ
+read_of c (Some (Meipl s)) = (field_at c s).0
+read_of c (Some (Meip x)) = pending_word c x
+read_of c (Some (Meie s)) = enable_at c s
+read_of c (Some Mpiccfg) = c.scalars.priord
+read_of c (Some (Meigwctrl s)) = 2 * trigger_at c s + polarity_at c s
+read_of c (Some (Meigwclr s)) = 0
+read_of c None = 0
 
 -- What a store changes: meiplS takes the field, bits 3:0; meipX, writes dropped; mpiccfg, bit 0 priord, and no field; meigwclrS, a store of any value clears the latch. Other bits are dropped. Other offsets, stores dropped. A latch whose line
 -- is active stays set or is set.
-unfoldable pub written_of : Controller → Register → ℕ → Controller
-written_of c (Meipl s) v = with_field c (set c.field s (v % 16))
-written_of c (Meip x) v = c
-written_of c (Meie s) v = with_enable c (set c.enable s (v % 2))
-written_of c Mpiccfg v = with_scalars c (with_priord c.scalars (v % 2))
-written_of c (Meigwctrl s) v = settle_at (with_polarity (with_trigger c (set c.trigger s (v / 2 % 2))) (set c.polarity s (v % 2))) s
-written_of c (Meigwclr s) v = settle_at (with_latch c (set c.latch s 0)) s
-written_of c NoRegister v = c
+unfoldable pub written_of : Controller → Option Register → ℕ → Controller
+written_of c (Some (Meipl s)) v = with_field c (set c.field s (v % 16))
+written_of c (Some (Meip x)) v = c
+written_of c (Some (Meie s)) v = with_enable c (set c.enable s (v % 2))
+written_of c (Some Mpiccfg) v = with_scalars c (with_priord c.scalars (v % 2))
+written_of c (Some (Meigwctrl s)) v = settle_at (with_polarity (with_trigger c (set c.trigger s (v / 2 % 2))) (set c.polarity s (v % 2))) s
+written_of c (Some (Meigwclr s)) v = settle_at (with_latch c (set c.latch s 0)) s
+written_of c None v = c
 
 -- meigwclrS, a store of any value clears the latch: whether a store to a register clears that of source s.
-abbrev pub clears : Register → ℕ → Bool
-clears (Meipl t) s = false
-clears (Meip x) s = false
-clears (Meie t) s = false
-clears Mpiccfg s = false
-clears (Meigwctrl t) s = false
-clears (Meigwclr t) s = eqb t s
-clears NoRegister s = false
+abbrev pub clears : Option Register → ℕ → Bool
+clears (Some (Meipl t)) s = false
+clears (Some (Meip x)) s = false
+clears (Some (Meie t)) s = false
+clears (Some Mpiccfg) s = false
+clears (Some (Meigwctrl t)) s = false
+clears (Some (Meigwclr t)) s = eqb t s
+clears None s = false

@@ -5,7 +5,7 @@ mod decoding;
 mod samples;
 mod values;
 
-ghost use Rattle.std.specs.Prelude.{◌≡◌, true};
+ghost use Rattle.std.specs.Prelude.{◌≡◌, true, Some};
 ghost use Rattle.pic_registers.specs.Offsets.{is_register};
 ghost use Rattle.pic_registers.specs.Registers.{read_of, written_of};
 ghost use Rattle.pic_registers.specs.Calls.{sample_of, load_of, store_of};
@@ -28,13 +28,13 @@ pub enum Register {
     Mpiccfg,
     Meigwctrl(u8),
     Meigwclr(u8),
-    NoRegister,
 }
 
 // What a register reads.
+#[tactic(auto, unfolding(crate::specs::Registers::read_of))]
 fn read(c: Controller, r: Register) -> u32
-    requires { is_register c.sources r ≡ true }
-    ensures { result ≡ read_of c r }
+    requires { is_register c.sources (Some r) ≡ true }
+    ensures { result ≡ read_of c (Some r) }
 {
     match r {
         Register::Meipl(s) => field_at(c, s),
@@ -43,13 +43,13 @@ fn read(c: Controller, r: Register) -> u32
         Register::Mpiccfg => c.scalars.priord as u32,
         Register::Meigwctrl(s) => gateway_at(c, s),
         Register::Meigwclr(_) => 0,
-        Register::NoRegister => 0,
     }
 }
 
 // A store of v to a register.
+#[tactic(auto, unfolding(crate::specs::Registers::written_of))]
 fn write(c: Controller, r: Register, v: u32) -> Controller
-    ensures { result ≡ written_of c r v }
+    ensures { result ≡ written_of c (Some r) v }
 {
     match r {
         Register::Meipl(s) => write_field(c, s, v),
@@ -58,11 +58,11 @@ fn write(c: Controller, r: Register, v: u32) -> Controller
         Register::Mpiccfg => write_priord(c, v),
         Register::Meigwctrl(s) => write_gateway(c, s, v),
         Register::Meigwclr(s) => clear_latch(c, s),
-        Register::NoRegister => c,
     }
 }
 
 // The lines of word x take the bits of v.
+#[tactic(auto, unfolding(crate::specs::Calls::sample_of))]
 pub fn sample(c: Controller, x: u32, v: u32) -> Outcome
     ensures { result ≡ sample_of c x v }
 {
@@ -76,11 +76,13 @@ pub fn sample(c: Controller, x: u32, v: u32) -> Outcome
 pub fn load(c: Controller, offset: u32) -> Outcome
     ensures { result ≡ load_of c offset }
 {
-    let q = offset_refusal(offset);
-    if q != 0 {
-        return c.refuse(q);
+    if let Err(q) = offset_refusal(offset) {
+        return c.refuse(u8::from(q));
     }
-    let a = read(c, register_at(c.sources, offset));
+    let a = match register_at(c.sources, offset) {
+        Some(r) => read(c, r),
+        None => 0,
+    };
     c.accept(a)
 }
 
@@ -88,10 +90,11 @@ pub fn load(c: Controller, offset: u32) -> Outcome
 pub fn store(c: Controller, offset: u32, v: u32) -> Outcome
     ensures { result ≡ store_of c offset v }
 {
-    let q = offset_refusal(offset);
-    if q != 0 {
-        return c.refuse(q);
+    if let Err(q) = offset_refusal(offset) {
+        return c.refuse(u8::from(q));
     }
-    let r = register_at(c.sources, offset);
-    write(c, r, v).accept(0)
+    match register_at(c.sources, offset) {
+        Some(r) => write(c, r, v).accept(0),
+        None => c.accept(0),
+    }
 }

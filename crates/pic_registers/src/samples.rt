@@ -1,19 +1,12 @@
 // Lines sampled a word at a time, and the words of pending bits.
 
 ghost use Rattle.std.specs.Prelude.{◌≡◌, ◌<◌, ◌^◌};
-ghost use Rattle.pic_bits.specs.Bits.{bit_of, join_of};
+ghost use Rattle.pic_bits.specs.Bits.{join_of};
 ghost use Rattle.pic_registers.specs.Registers.{sampled, pending_word};
 
 use pic::Controller;
+use pic_bits::bit;
 use pic_source::sources::{is_source, latch_after, pending};
-
-// Bit y of v.
-fn bit(v: u32, y: u32) -> u8
-    requires { y < 32 }
-    ensures { result ≡ bit_of v y }
-{
-    ((v >> y) & 1) as u8
-}
 
 // The word w, which has no bit from y up, with bit y set where on holds.
 fn join(w: u32, y: u32, on: bool) -> u32
@@ -29,11 +22,9 @@ pub(crate) fn take_lines(mut c: Controller, x: usize, v: u32) -> Controller
     ensures { result ≡ sampled c x v }
 {
     let n = c.sources;
-    let mut y: u32 = 0;
-    while y < 32 {
-        let b = bit(v, y);
-        let s = 32 * x + (y as usize);
-        y += 1;
+    for y in 0..32 {
+        let b = bit(v, y) as u8;
+        let s = 32 * x + y as usize;
         if is_source(n, s as u32) {
             c.line[s] = b;
             c.latch[s] = latch_after(b, c.polarity[s], c.latch[s]);
@@ -49,13 +40,11 @@ pub(crate) fn pending_word(c: Controller, x: usize) -> u32
 {
     let n = c.sources;
     let mut w: u32 = 0;
-    let mut y: u32 = 0;
-    while y < 32 {
-        let s = 32 * x + (y as usize);
+    for y in 0..32 {
+        let s = 32 * x + y as usize;
         let p = pending(c.trigger[s], c.polarity[s], c.line[s], c.latch[s]);
         let on = is_source(n, s as u32) & p;
         w = join(w, y, on);
-        y += 1;
     }
     w
 }

@@ -1,6 +1,7 @@
 // The registers of one source: what each reads, and what a store changes.
+#![tactic(auto, unfolding(crate::specs::Registers::written_of))]
 
-ghost use Rattle.std.specs.Prelude.{◌≡◌, ◌+◌, ◌*◌};
+ghost use Rattle.std.specs.Prelude.{◌≡◌, ◌+◌, ◌*◌, Some};
 ghost use Rattle.pic.specs.Sources.{field_at, enable_at, trigger_at, polarity_at, settle_at};
 ghost use Rattle.pic_registers.specs.Registers.{written_of};
 ghost use Rattle.pic_registers.specs.declared.Register.TheVariants.{Meipl, Meie, Mpiccfg, Meigwctrl, Meigwclr};
@@ -46,21 +47,21 @@ pub(crate) fn settle_at(mut c: Controller, s: u8) -> Controller
 
 // The field of source s, bits 3:0 of v.
 pub(crate) fn write_field(mut c: Controller, s: u8, v: u32) -> Controller
-    ensures { result ≡ written_of c (Meipl s) v }
+    ensures { result ≡ written_of c (Some (Meipl s)) v }
 {
     c.field[s as usize] = (v % 16) as u8;
     c
 }
 
 pub(crate) fn write_enable(mut c: Controller, s: u8, v: u32) -> Controller
-    ensures { result ≡ written_of c (Meie s) v }
+    ensures { result ≡ written_of c (Some (Meie s)) v }
 {
     c.enable[s as usize] = (v % 2) as u8;
     c
 }
 
 pub(crate) fn write_priord(mut c: Controller, v: u32) -> Controller
-    ensures { result ≡ written_of c Mpiccfg v }
+    ensures { result ≡ written_of c (Some Mpiccfg) v }
 {
     let mut s = c.scalars;
     s.priord = (v % 2) as u8;
@@ -70,7 +71,7 @@ pub(crate) fn write_priord(mut c: Controller, v: u32) -> Controller
 
 // The type and the polarity of source s, and its latch where that makes its line active.
 pub(crate) fn write_gateway(mut c: Controller, s: u8, v: u32) -> Controller
-    ensures { result ≡ written_of c (Meigwctrl s) v }
+    ensures { result ≡ written_of c (Some (Meigwctrl s)) v }
 {
     let i = s as usize;
     c.trigger[i] = (v / 2 % 2) as u8;
@@ -80,7 +81,7 @@ pub(crate) fn write_gateway(mut c: Controller, s: u8, v: u32) -> Controller
 
 // The latch of source s cleared, and set again where its line is active.
 pub(crate) fn clear_latch(mut c: Controller, s: u8) -> Controller
-    ensures { result ≡ written_of c (Meigwclr s) 0 }
+    ensures { result ≡ written_of c (Some (Meigwclr s)) 0 }
 {
     c.latch[s as usize] = 0;
     settle_at(c, s)

@@ -12,8 +12,9 @@ use Rattle.pic_source.proofs.Bools.{eq-cases}
 use Rattle.pic.specs.Fields.{with_scalars, with_priord}
 use Rattle.pic.specs.Calls.{priority_order, accepts, asks}
 use Rattle.pic.proofs.Soundness.{Sound, facts}
+use Rattle.std.specs.Prelude.{Option, Some, None}
 use Rattle.pic_registers.specs.declared.Register.{Register}
-use Rattle.pic_registers.specs.declared.Register.TheVariants.{Meipl, Meip, Meie, Mpiccfg, Meigwctrl, Meigwclr, NoRegister}
+use Rattle.pic_registers.specs.declared.Register.TheVariants.{Meipl, Meip, Meie, Mpiccfg, Meigwctrl, Meigwclr}
 use Rattle.pic_registers.specs.Offsets.{register_at, offset_refusal}
 use Rattle.pic_registers.specs.Registers.{written_of}
 use Rattle.pic_registers.specs.Calls.{sample_of, store_of}
@@ -70,17 +71,17 @@ sample-fresh c x v =
     sym (stays c d (fresh_of c) (sampled-order c x v)) ∙ moved-fresh c d
 
 -- A store that switches priord leaves all else.
-written-switch : (c : Controller) (g : Register) (v : ℕ) → Sound c → (c.scalars.priord ≡ (written_of c g v).scalars.priord → ⊥) → written_of c g v ≡ switched c
+written-switch : (c : Controller) (g : Option Register) (v : ℕ) → Sound c → (c.scalars.priord ≡ (written_of c g v).scalars.priord → ⊥) → written_of c g v ≡ switched c
 unfolding written_of
-written-switch c (Meipl s) v h n = absurd (n refl)
-written-switch c (Meip x) v h n = absurd (n refl)
-written-switch c (Meie s) v h n = absurd (n refl)
-written-switch c Mpiccfg v h n =
+written-switch c (Some (Meipl s)) v h n = absurd (n refl)
+written-switch c (Some (Meip x)) v h n = absurd (n refl)
+written-switch c (Some (Meie s)) v h n = absurd (n refl)
+written-switch c (Some Mpiccfg) v h n =
     let e : v % 2 ≡ 1 - c.scalars.priord = omega (arith, n, h.ranges.priord) in
     ap (λ (p : ℕ). with_scalars c (with_priord c.scalars p)) e
-written-switch c (Meigwctrl s) v h n = absurd (n refl)
-written-switch c (Meigwclr s) v h n = absurd (n refl)
-written-switch c NoRegister v h n = absurd (n refl)
+written-switch c (Some (Meigwctrl s)) v h n = absurd (n refl)
+written-switch c (Some (Meigwclr s)) v h n = absurd (n refl)
+written-switch c None v h n = absurd (n refl)
 
 store-switch : (c : Controller) (o v : ℕ) → Sound c → (c.scalars.priord ≡ (store_of c o v).machine.scalars.priord → ⊥) → (store_of c o v).machine ≡ switched c
 unfolding store_of

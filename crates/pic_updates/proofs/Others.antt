@@ -12,8 +12,9 @@ use Rattle.pic_source.specs.Sources.{is_source}
 use Rattle.pic_source.proofs.Ranges.{source-range}
 use Rattle.pic.specs.declared.Controller.{Controller}
 use Rattle.pic.specs.Calls.{accepts, asks}
+use Rattle.std.specs.Prelude.{Option, Some, None}
 use Rattle.pic_registers.specs.declared.Register.{Register}
-use Rattle.pic_registers.specs.declared.Register.TheVariants.{Meipl, Meip, Meie, Mpiccfg, Meigwctrl, Meigwclr, NoRegister}
+use Rattle.pic_registers.specs.declared.Register.TheVariants.{Meipl, Meip, Meie, Mpiccfg, Meigwctrl, Meigwclr}
 use Rattle.pic_registers.specs.Offsets.{source_register, page_register, register_at, offset_refusal}
 use Rattle.pic_registers.specs.Registers.{sampled, written_of}
 use Rattle.pic_registers.specs.Calls.{sample_of, store_of}
@@ -26,27 +27,27 @@ unfolding ready_at
 sample-others c x v r t n = rw (line_kept c x v t (inl n), latch-kept c x v t (inl n))
 
 -- The register is of no source, or of another than t.
-abbrev Apart : Register → ℕ → Type 0
-Apart (Meipl s) t = t ≡ s → ⊥
-Apart (Meip x) t = Unit {0}
-Apart (Meie s) t = t ≡ s → ⊥
-Apart Mpiccfg t = Unit {0}
-Apart (Meigwctrl s) t = t ≡ s → ⊥
-Apart (Meigwclr s) t = t ≡ s → ⊥
-Apart NoRegister t = Unit {0}
+abbrev Apart : Option Register → ℕ → Type 0
+Apart (Some (Meipl s)) t = t ≡ s → ⊥
+Apart (Some (Meip x)) t = Unit {0}
+Apart (Some (Meie s)) t = t ≡ s → ⊥
+Apart (Some Mpiccfg) t = Unit {0}
+Apart (Some (Meigwctrl s)) t = t ≡ s → ⊥
+Apart (Some (Meigwclr s)) t = t ≡ s → ⊥
+Apart None t = Unit {0}
 
 -- A store leaves every other source, where it leaves priord.
-written-others : (c : Controller) (g : Register) (v r t : ℕ) → Apart g t → (written_of c g v).scalars.priord ≡ c.scalars.priord
+written-others : (c : Controller) (g : Option Register) (v r t : ℕ) → Apart g t → (written_of c g v).scalars.priord ≡ c.scalars.priord
     → belongs c r t ≡ belongs (written_of c g v) r t
 unfolding written_of ready_at
-written-others c (Meipl s) v r t n e = rw (get_or-set_other c.field s t (v % 16) 0 n)
-written-others c (Meip x) v r t n e = refl
-written-others c (Meie s) v r t n e = rw (get_or-set_other c.enable s t (v % 2) 0 n)
-written-others c Mpiccfg v r t n e = rw e
-written-others c (Meigwctrl s) v r t n e =
+written-others c (Some (Meipl s)) v r t n e = rw (get_or-set_other c.field s t (v % 16) 0 n)
+written-others c (Some (Meip x)) v r t n e = refl
+written-others c (Some (Meie s)) v r t n e = rw (get_or-set_other c.enable s t (v % 2) 0 n)
+written-others c (Some Mpiccfg) v r t n e = rw e
+written-others c (Some (Meigwctrl s)) v r t n e =
     rw (get_or-set_other c.trigger s t (v / 2 % 2) 0 n, get_or-set_other c.polarity s t (v % 2) 0 n, get_or-set_other c.latch s t _ 0 n)
-written-others c (Meigwclr s) v r t n e = rw (get_or-set_other (set c.latch s 0) s t _ 0 n, get_or-set_other c.latch s t 0 0 n)
-written-others c NoRegister v r t n e = refl
+written-others c (Some (Meigwclr s)) v r t n e = rw (get_or-set_other (set c.latch s 0) s t _ 0 n, get_or-set_other c.latch s t 0 0 n)
+written-others c None v r t n e = refl
 
 -- The register at an offset is of the source that the offset's word in its page has as number.
 apart-at : (n o t : ℕ) → n ≤ 255 → (t ≡ o % 4096 / 4 % 256 → ⊥) → Apart (register_at n o) t
@@ -62,9 +63,9 @@ apart-at n o t l d =
     other e f = d (omega (arith, f, l, (source-range n i e).1))
 
     go : (a b k z s : Bool) → is_source n i ≡ s → (p0 p2 p4 p5 : Bool)
-        → Apart (cond a (cond b (Meip i) NoRegister)
-        (cond k (cond z Mpiccfg NoRegister)
-        (cond s (cond p0 (Meipl i) (cond p2 (Meie i) (cond p4 (Meigwctrl i) (cond p5 (Meigwclr i) NoRegister)))) NoRegister))) t
+        → Apart (cond a (cond b (Some (Meip i)) None)
+        (cond k (cond z (Some Mpiccfg) None)
+        (cond s (cond p0 (Some (Meipl i)) (cond p2 (Some (Meie i)) (cond p4 (Some (Meigwctrl i)) (cond p5 (Some (Meigwclr i)) None)))) None))) t
     go true true k z s e p0 p2 p4 p5 = tt
     go true false k z s e p0 p2 p4 p5 = tt
     go false b true true s e p0 p2 p4 p5 = tt

@@ -1,11 +1,6 @@
-use Prim.Native.Nat.{◌≤◌, ◌-◌}
-use mathlib.Core.Path.{◌≡◌}
+use Rattle.std.proofs.Common.{◌≡◌}
 use Rattle.handlers_stack.specs.Stacks.{handlers_sound, below_of}
 use Rattle.handlers_stack.proofs.handlers_sound.Given as goal
 
 abbrev pub invariant-loop-k : goal.invariant-loop-k
-invariant-loop-k l =
-    (l.k ≤ l.d) × (l.d ≡ l.depth) × (l.ok ≡ handlers_sound l.n l.depth l.stack l.k) × (l.below ≡ below_of l.stack l.k)
-
-abbrev pub decreases-loop-k : goal.decreases-loop-k
-decreases-loop-k l = l.d - l.k
+invariant-loop-k l = (l.ok ≡ handlers_sound l.n l.depth l.stack l.k) × (l.below ≡ below_of l.stack l.k)

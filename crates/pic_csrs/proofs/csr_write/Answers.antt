@@ -1,22 +1,26 @@
-use mathlib.Core.Path.{ap, ◌∙◌}
-use borrow.Author.Tests.{not-true, not-false, eq-eqb, ne_eqb}
-use Rattle.pic.specs.declared.Controller.{Controller}
-use Rattle.pic.specs.Calls.{accepts, capture_of}
+use Rattle.std.proofs.Common.{◌≡◌, sym}
+use Rattle.pic_csrs.specs.declared.Csr.TheVariants.{Meicpct, Meihap}
+use Rattle.pic_csrs.specs.Addresses.{csr_at}
 use Rattle.pic_csrs.specs.Calls.{csr_write_of}
+use Rattle.pic_csrs.proofs.Addresses.{csr-address, not-at}
 use Rattle.pic_csrs.proofs.csr_write.Goals as goal
 
-pub returns-then-not-is_csr : goal.returns-then-not-is_csr
-unfolding csr_write_of
-returns-then-not-is_csr c = rw (← c.csr_at-csr.ensures, ← c.is_csr.ensures, not-true c.is_csr.result c.if-not-is_csr.true-raw) c.refuse.ensures
+pub returns-in-Meihap : goal.returns-in-Meihap
+unfolding csr_write_of csr_at
+returns-in-Meihap c =
+    let z : c.args.address ≡ 0xFC8 = csr-address _ Meihap (sym (rw c.in-Meihap.is at c.in-Some.ensures)) in
+    rw z c.refuse-in-Meihap.ensures
 
-pub returns-then-address-eq4040 : goal.returns-then-address-eq4040
-unfolding csr_write_of
-returns-then-address-eq4040 c = rw (← c.csr_at-csr.ensures, ← c.is_csr.ensures, not-false c.is_csr.result c.if-not-is_csr.false-raw, eq-eqb _ _ c.if-address-eq4040.true) c.refuse-then-address-eq4040.ensures
+pub returns-in-Meicpct : goal.returns-in-Meicpct
+unfolding csr_write_of csr_at
+returns-in-Meicpct c =
+    let z : c.args.address ≡ 0xBCA = csr-address _ Meicpct (sym (rw c.in-Meicpct.is at c.in-Some.ensures)) in
+    rw (z, c.accept.ensures, c.capture.ensures, c.winner-w.ensures)
 
-pub returns-then-address-eq3018 : goal.returns-then-address-eq3018
+pub returns-in_default-csr : goal.returns-in_default-csr
 unfolding csr_write_of
-returns-then-address-eq3018 c = rw (← c.csr_at-csr.ensures, ← c.is_csr.ensures, not-false c.is_csr.result c.if-not-is_csr.false-raw, ne_eqb _ _ c.if-address-eq4040.false, eq-eqb _ _ c.if-address-eq3018.true) (c.accept.ensures ∙ ap (λ (d : Controller). accepts d 0) (c.capture.ensures ∙ ap (capture_of _) c.winner-w.ensures))
-
-pub returns : goal.returns
-unfolding csr_write_of
-returns c = rw (← c.csr_at-csr.ensures, ← c.is_csr.ensures, not-false c.is_csr.result c.if-not-is_csr.false-raw, ne_eqb _ _ c.if-address-eq4040.false, ne_eqb _ _ c.if-address-eq3018.false, ← c.csr_written-s.ensures) c.accept-2.ensures
+returns-in_default-csr c =
+    let e = sym c.in-Some.ensures in
+    let h = not-at _ _ Meihap e (λ f. c.in_default-csr.not-Meihap (sym f)) in
+    let k = not-at _ _ Meicpct e (λ f. c.in_default-csr.not-Meicpct (sym f)) in
+    rw (h, k, ← c.in-Some.ensures, c.accept-in_default-csr.ensures, c.csr_written-c.ensures)

@@ -1,21 +1,17 @@
-use mathlib.Core.Path.{ap, ◌∙◌}
-use borrow.Author.Tests.{eq-eqb, ne_eqb}
-use Rattle.pic.specs.declared.Controller.{Controller}
-use Rattle.pic.specs.Calls.{accepts}
-use Rattle.pic_registers.specs.declared.Register.{Register}
+use Rattle.questions.specs.Numbers.{number_in}
+use Rattle.questions.proofs.Numbers.{never_0}
 use Rattle.pic_registers.specs.Registers.{written_of}
 use Rattle.pic_registers.specs.Calls.{store_of}
 use Rattle.pic_registers.proofs.store.Goals as goal
 
-pub returns-then-q-ne0 : goal.returns-then-q-ne0
-unfolding store_of
-returns-then-q-ne0 c = rw (← c.offset_refusal-q.ensures, ne_eqb _ _ c.if-q-ne0.true) c.refuse.ensures
+pub returns-in-Err : goal.returns-in-Err
+unfolding store_of number_in
+returns-in-Err c = rw (← c.in-Err.ensures, never_0 c.in-Err.q, ← c.from.ensures) c.refuse.ensures
 
-pub returns : goal.returns
-unfolding store_of
-returns c =
-    let a = c.args in
-    rw (← c.offset_refusal-q.ensures, eq-eqb _ _ c.if-q-ne0.false)
-    (c.accept.ensures
-    ∙ ap (λ (d : Controller). accepts d 0)
-    (c.write.ensures ∙ ap (λ (r : Register). written_of a.c r a.v) c.register_at-r.ensures))
+pub returns-in-Some : goal.returns-in-Some
+unfolding store_of number_in
+returns-in-Some c = rw (← c.in_default.ensures, ← c.in-Some.ensures, c.accept.ensures, c.write.ensures)
+
+pub returns-in-None : goal.returns-in-None
+unfolding store_of number_in written_of
+returns-in-None c = rw (← c.in_default.ensures, ← c.in-None.ensures) c.accept-in-None.ensures

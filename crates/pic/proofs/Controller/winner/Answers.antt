@@ -1,26 +1,17 @@
-use Rattle.std.proofs.Common.{◌≡◌, arith, rules}
+use Rattle.std.proofs.Common.{refl}
 use Rattle.pic.specs.Sources.{winner_to}
-use Rattle.pic.proofs.Turns.{winner-turn, winner-stays}
+use Rattle.pic.proofs.Turns.{winner-at, winner-stays-at}
 use Rattle.pic.proofs.Controller.winner.Goals as goal
+use Rattle.pic.proofs.Controller.winner.Goals.{then-waits, else-waits}
 
 pub loop-s-init : goal.loop-s-init
 unfolding winner_to
-loop-s-init c = search rules
-
-pub loop-s-preserved-then-waiting : goal.loop-s-preserved-then-waiting
-loop-s-preserved-then-waiting c =
-    let i = c.loop-s.invariant in (
-      search rules,
-      search rules,
-      search rules,
-      search rules,
-      winner-turn _ _ i.4 c.waiting.ensures c.if-waiting.true (rw i.2 at c.to_rank.ensures) c.better-w.ensures,
-    )
+loop-s-init c = refl
 
 pub loop-s-preserved : goal.loop-s-preserved
 loop-s-preserved c =
     let i = c.loop-s.invariant in
-    (search rules, search rules, search rules, search rules, winner-stays _ _ i.4 c.waiting.ensures c.if-waiting.false)
-
-pub returns : goal.returns
-returns c = let e : c.loop-s.s ≡ c.args.self.sources = omega arith in rw e at c.loop-s.invariant.4
+    elim c.if-waits.branch [
+      | then-waits w ↦ rw w.w-is (winner-at _ _ c.loop-s.auto.s i c.waits.ensures w.if-waits.true w.to_rank.ensures w.better-w.ensures)
+      | else-waits w ↦ rw w.w-is (winner-stays-at _ _ c.loop-s.auto.s i c.waits.ensures w.if-waits.false)
+    ]

@@ -1,11 +1,13 @@
-use Rattle.std.proofs.Common.{le-ltb, lt-ltb}
+use Rattle.std.proofs.Common.{◌≡◌, Bool, true, false, cond, ltb, refl, ap, ◌∙◌, arith, max, ltb-true, ltb-false}
+use Rattle.pic_source.specs.declared.Rank.{Rank}
+use Rattle.pic_source.specs.Ranks.{rank}
 use Rattle.pic.specs.Sources.{higher_of}
 use Rattle.pic.proofs.calls.higher.Goals as goal
 
-pub returns-then-a-b : goal.returns-then-a-b
-unfolding higher_of
-returns-then-a-b c = rw (lt-ltb _ _ c.if-a-b.true)
+larger : (a b : Rank) (t : Bool) → ltb a.0 b.0 ≡ t → rank (max a.0 b.0) ≡ cond t b a
+larger a b true e = let l = ltb-true a.0 b.0 e in ap rank (omega arith)
+larger a b false e = let l = ltb-false a.0 b.0 e in ap rank (omega arith)
 
-pub returns-else-a-b : goal.returns-else-a-b
+pub returns : goal.returns
 unfolding higher_of
-returns-else-a-b c = rw (le-ltb _ _ c.if-a-b.false)
+returns c = ap rank c.max.ensures ∙ larger c.args.a c.args.b _ refl

@@ -1,5 +1,0 @@
-use mathlib.Core.Path.{refl}
-use Rattle.handlers_questions.proofs.may_write.Goals as goal
-
-pub returns : goal.returns
-returns c = refl

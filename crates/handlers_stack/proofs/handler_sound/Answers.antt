@@ -1,7 +1,0 @@
-use mathlib.Core.Path.{refl}
-use Rattle.handlers_stack.specs.Stacks.{handler_sound}
-use Rattle.handlers_stack.proofs.handler_sound.Goals as goal
-
-pub returns : goal.returns
-unfolding handler_sound
-returns c = refl
