@@ -2,7 +2,7 @@
 use Prim.Native.Nat.{ℕ, zero, suc, ◌+◌, ◌-◌, ◌/◌, ◌%◌, ◌≤◌, ◌<◌}
 use native.Mathlib.Omega.{arith}
 use native.Mathlib.Nat.{mod-lt, mod-eq_of_lt}
-use borrow.Author.Tests.{ltb-true, leb-true, leb-false, lt-ltb, le-ltb, le-leb, lt-leb}
+use borrow.Author.Tests.{ltb-true, lt-ltb, le-ltb, le-leb, lt-leb}
 use native.Mathlib.Numerals.{sub-one, add-one}
 use mathlib.Core.Path.{◌≡◌, refl, ap, ◌∙◌}
 use mathlib.Core.Bool.{Bool, true, false, ◌&&◌, cond}
@@ -103,14 +103,6 @@ exact base least (suc most) n = by-case (ltb n base) (leb least 1) refl (exact b
     by-case true true ex e = rw ex
     by-case true false ex e = longer e
     by-case false y ex e = longer e
-
--- Tests that say the same.
-pub same_test : (a b a' b' : ℕ) → (a ≤ b → a' ≤ b') → (b < a → b' < a') → leb a' b' ≡ leb a b
-same_test a b a' b' f g = by-case (leb a b) refl
-  where
-    by-case : (x : Bool) → leb a b ≡ x → leb a' b' ≡ x
-    by-case true e = le-leb a' b' (f (leb-true a b e))
-    by-case false e = lt-leb a' b' (g (leb-false a b e))
 
 -- Of n's digits k are counted, the first of left's with them.
 abbrev pub Counted : ℕ → ℕ → ℕ → ℕ → ℕ → ℕ → Type 0
