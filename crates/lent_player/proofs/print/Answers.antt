@@ -56,6 +56,6 @@ returns-in-Ok c =
 pub returns-in-Err : goal.returns-in-Err
 returns-in-Err c =
     let size : length c.args.out.now ≡ lines_room most_events = search rules in
-    let line = refused_line (number_of c.in-Err.refused.refusal) c.in-Err.refused.place in
-    let printed = filled-as c.args.out.now (print-refused (not (goal.at.returns-in-Err c).In-Err)) (had-room first_line_size line c.args.out.now (omega (arith, size)) (c.print_refused.ensures.value, c.print_refused.ensures.out_after)) in
+    let line = refused_line c.from.result c.in-Err.refused.place in
+    let printed = filled-as c.args.out.now (rw c.from.ensures (print-refused (not (goal.at.returns-in-Err c).In-Err))) (had-room first_line_size line c.args.out.now (omega (arith, size)) (c.print_refused.ensures.value, c.print_refused.ensures.out_after)) in
     record { value = printed.0; out_after = printed.1; has_first = print-first board c.args.«record».now c.args.out.now printed.0 printed.1 }

@@ -37,14 +37,14 @@ slice_bounds-play-end-in-Ok-2 c = (done (goal.at.slice_bounds-play-end-in-Ok-2 c
 pub slice_bounds-play-end-in-Ok-3 : goal.slice_bounds-play-end-in-Ok-3
 slice_bounds-play-end-in-Ok-3 c = sym (length-take-le _ _ (done (goal.at.slice_bounds-play-end-in-Ok-3 c).In-Ok).in-values)
 
-pub overflow_cast-sources : goal.overflow_cast-sources
-overflow_cast-sources c = omega (arith, (done (goal.at.overflow_cast-sources c).In-Ok).most)
+pub overflow_cast-sizes : goal.overflow_cast-sizes
+overflow_cast-sizes c = omega (arith, (done (goal.at.overflow_cast-sizes c).In-Ok).most)
 
-pub overflow_cast-events : goal.overflow_cast-events
-overflow_cast-events c = omega (arith, (done (goal.at.overflow_cast-events c).In-Ok).few)
+pub overflow_cast-sizes-in-Ok : goal.overflow_cast-sizes-in-Ok
+overflow_cast-sizes-in-Ok c = omega (arith, (done (goal.at.overflow_cast-sizes-in-Ok c).In-Ok).few)
 
-pub overflow_cast-place : goal.overflow_cast-place
-overflow_cast-place c = omega (arith, refused-few (not (goal.at.overflow_cast-place c).In-Err))
+pub overflow_cast-no : goal.overflow_cast-no
+overflow_cast-no c = omega (arith, refused-few (not (goal.at.overflow_cast-no c).In-Err))
 
 pub shape_of-heads-in-Ok : goal.shape_of-heads-in-Ok
 shape_of-heads-in-Ok c = c.read.auto.heads
@@ -55,4 +55,4 @@ returns-in-Ok c =
 
 pub returns-in-Err : goal.returns-in-Err
 returns-in-Err c =
-    let r = left-refused c.args.«record».now c.args.answers.now c.args.refusals.now (not (goal.at.returns-in-Err c).In-Err) c.refused.ensures in record { value = r.0; answers_after = r.1.0; refusals_after = r.1.1 }
+    let r = left-refused c.args.«record».now c.args.answers.now c.args.refusals.now (not (goal.at.returns-in-Err c).In-Err) (rw c.from.ensures at c.refused.ensures) in record { value = r.0; answers_after = r.1.0; refusals_after = r.1.1 }
