@@ -3,7 +3,7 @@
 
 use record::RECORD_SIZE;
 use text_messages::MESSAGE_SIZE;
-use text_writer::{LISTING_SIZE, TextAnswer};
+use text_writer::LISTING_SIZE;
 
 // One byte more than the longest record: it shows that input is longer, which question 2, 3 or 4 then refuses.
 const INPUT_SIZE: usize = RECORD_SIZE + 1;
@@ -17,10 +17,9 @@ fn say_refused(rt: &HostRuntime, refusal: u8, place: usize) {
 
 fn convert(rt: &HostRuntime, bytes: &[u8]) {
     let mut text: [u8; LISTING_SIZE] = [0; LISTING_SIZE];
-    let answer = text_writer::to_text(bytes, &mut text);
-    match answer {
-        TextAnswer::Done { length } => console::write_out(rt, &text[..length]),
-        TextAnswer::Refused { refusal, place } => say_refused(rt, refusal, place),
+    match text_writer::to_text(bytes, &mut text) {
+        Ok(length) => console::write_out(rt, &text[..length]),
+        Err(refused) => say_refused(rt, refused.refusal.into(), refused.place),
     }
 }
 

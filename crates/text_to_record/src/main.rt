@@ -3,7 +3,7 @@
 
 use record::RECORD_SIZE;
 use text_messages::MESSAGE_SIZE;
-use text_reader::{RecordAnswer, TEXT_SIZE};
+use text_reader::{NotRecord, TEXT_SIZE};
 
 // One byte more than the longest text, so that longer input is refused, as all of it would be.
 const INPUT_SIZE: usize = TEXT_SIZE + 1;
@@ -24,15 +24,12 @@ fn say_refused(rt: &HostRuntime, refusal: u8, place: usize, line: usize) {
 
 fn convert(rt: &HostRuntime, text: &[u8]) {
     let mut bytes: [u8; RECORD_SIZE] = [0; RECORD_SIZE];
-    let answer = text_reader::to_record(text, &mut bytes);
-    match answer {
-        RecordAnswer::Done { length } => console::write_out(rt, &bytes[..length]),
-        RecordAnswer::BadText { why, line } => say_bad(rt, why, line),
-        RecordAnswer::Refused {
-            refusal,
-            place,
-            line,
-        } => say_refused(rt, refusal, place, line),
+    match text_reader::to_record(text, &mut bytes) {
+        Ok(length) => console::write_out(rt, &bytes[..length]),
+        Err(NotRecord::BadText(fault)) => say_bad(rt, fault.why.into(), fault.line),
+        Err(NotRecord::Refused { refused, line }) => {
+            say_refused(rt, refused.refusal.into(), refused.place, line)
+        }
     }
 }
 

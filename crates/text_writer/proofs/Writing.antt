@@ -1,5 +1,5 @@
 -- The text of a record, put line by line.
-use mathlib.Core.Path.{◌≡◌, refl, sym, ap, ◌∙◌}
+use mathlib.Core.Path.{◌≡◌, sym, ap, ◌∙◌}
 use Prim.Native.Nat.{ℕ, zero, suc, ◌+◌, ◌*◌, ◌≤◌, ◌<◌}
 use native.Mathlib.Numerals.{add-one}
 use native.Mathlib.Omega.{arith}
@@ -15,16 +15,11 @@ use Rattle.digits.proofs.Digits.{digits-most}
 use Rattle.digits.proofs.Meaning.{digits-length}
 use Rattle.digits.proofs.Signs.{digits-some}
 use Rattle.digits.proofs.Pieces.{Stands, two, two-pieces, four}
-use borrow.Author.Tests.{eq-eqb, ne_eqb}
-use Rattle.std.specs.Prelude.{Result, Ok, Err}
-use Rattle.questions.specs.Numbers.{number_of}
-use Rattle.record.specs.declared.Refused.{Refused}
-use Rattle.record.specs.declared.Sizes.{Sizes}
+use borrow.Author.Tests.{eq-eqb}
 use Rattle.record.specs.Record.{board, most_events}
 use Rattle.record.specs.Questions.{board_verdict}
-use Rattle.record.specs.Answers.{done_with, refused_at, read_numbers, read_answer}
+use Rattle.record.specs.Answers.{done_with}
 use Rattle.record.proofs.Questions.{own-arrays}
-use Rattle.record.proofs.Answers.{read-not}
 use Rattle.record.proofs.Parts.{Parts}
 use Rattle.text_lines.specs.Lines.{line_feed, colon}
 use Rattle.text_writer.specs.Writing.{ended, sources_text, event_text, events_text, listing_of, text_of}
@@ -150,12 +145,3 @@ module _ (bytes text : List ℕ) {head_places value_places n s : ℕ} {hs vs : L
       let el' : l ≡ length (text_of bytes) = rw (p.heads, p.values, p.sources) at el in
       let ed' : d ≡ filled (text_of bytes) text = rw (p.heads, p.values, p.sources) at ed in
       rw (eq-eqb _ _ yes) (ap (λ (k : ℕ). done_with (k ∷ [])) el', ed', ap (take l) ed' ∙ take_at (text_of bytes) _ l (sym el'))
-
--- The refusal of one that was not.
-pub text-not-made : (bytes text : List ℕ) {head_places value_places : ℕ} {r : Result Sizes Refused} {x : Refused} → head_places ≡ most_events → value_places ≡ most_events
-    → read_numbers r ≡ read_answer board bytes head_places value_places → r ≡ Err x
-    → (refused_at (number_of x.refusal) x.place ≡ to_text_answer bytes) × (text ≡ to_text_bytes bytes text) × ((board_verdict bytes).refusal ≡ 0 → ⊥)
-text-not-made bytes text {head_places} {value_places} {r} eh ev e er =
-    let e' : read_numbers r ≡ read_answer board bytes most_events most_events = rw (eh, ev) at e in
-    let no = read-not board bytes most_events most_events e' er in
-    rw (no.1, no.2, ne_eqb _ _ no.0) (refl, refl, no.0)

@@ -1,18 +1,15 @@
-use Prim.Native.Nat.{◌≤◌, ◌-◌, ◌+◌, ◌*◌}
+use Prim.Native.Nat.{◌≤◌, ◌+◌, ◌*◌}
 use mathlib.Core.Path.{◌≡◌}
 use lib.ListN.{length, take}
 use lib.Seq.{sets}
 use Rattle.text_writer.specs.Writing.{events_text}
 use Rattle.text_writer.proofs.put_events.Given as goal
 
-abbrev pub invariant-loop-i : goal.invariant-loop-i
-invariant-loop-i l =
-    (length l.heads ≡ length l.values)
-    × (l.from + 18 * length l.heads ≤ length l.initial.text)
-    × (length l.text ≡ length l.initial.text)
-    × (l.i ≤ length l.heads)
-    × (l.at ≡ l.from + length (events_text (take l.i l.heads) (take l.i l.values)))
-    × (l.text ≡ sets l.initial.text l.from (events_text (take l.i l.heads) (take l.i l.values)))
-
-abbrev pub decreases-loop-i : goal.decreases-loop-i
-decreases-loop-i l = length l.heads - l.i
+abbrev pub invariant-loop-head : goal.invariant-loop-head
+invariant-loop-head l = record {
+  same : length l.heads ≡ length l.values;
+  room : l.from + 18 * length l.heads ≤ length l.initial.text;
+  long : length l.text ≡ length l.initial.text;
+  place : l.at ≡ l.from + length (events_text (take (length l.yielded) l.heads) (take (length l.yielded) l.values));
+  put : l.text ≡ sets l.initial.text l.from (events_text (take (length l.yielded) l.heads) (take (length l.yielded) l.values));
+}
