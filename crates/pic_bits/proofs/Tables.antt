@@ -2,11 +2,9 @@
 use Prim.Native.Nat.{ℕ, zero, suc, ◌/◌, ◌%◌, ◌<◌, ◌≤◌}
 use mathlib.Core.Path.{◌≡◌, refl, sym, ap, ◌∙◌}
 use mathlib.Core.List.{List}
-use mathlib.Core.Logic.{◌⊎◌, inl, inr}
 use native.Mathlib.Omega.{arith}
-use lib.ListN.{length, get_or, set, length-set}
+use lib.ListN.{length, get_or, set}
 use lib.Seq.{get_or-set_same, get_or-set_other, ext_get_or}
-use Rattle.pic_source.proofs.Bools.{eq-cases}
 use Rattle.pic_bits.specs.Bits.{bit_of, member_of}
 use Rattle.pic_bits.specs.Tables.{table_of, TableAt}
 
@@ -36,14 +34,6 @@ module _ {A : Type 0} (d : A) (n : ℕ) where
 
   pub table_same : (f g : ℕ → A) → ((i : ℕ) → i < n → f i ≡ g i) → table_of n f ≡ table_of n g
   table_same f g h = table_is g (table_of n f) (table-length n f) (λ i l. table_at A d n f i l ∙ h i l)
-
-  pub table-set : (f g : ℕ → A) (s : ℕ) (v : A) → s < n → f s ≡ v → ((i : ℕ) → i < n → (i ≡ s → ⊥) → f i ≡ g i) → table_of n f ≡ set (table_of n g) s v
-  table-set f g s v b e h =
-      sym (table_is f (set (table_of n g) s v) (length-set (table_of n g) s v ∙ table-length n g) (λ i l. go i l (eq-cases i s)))
-    where
-      go : (i : ℕ) → i < n → (i ≡ s) ⊎ (i ≡ s → ⊥) → get_or (set (table_of n g) s v) i d ≡ f i
-      go i k (inl p) = rw p (get_or-set_same (table_of n g) s v d (omega (arith, b, table-length n g)) ∙ sym e)
-      go i k (inr z) = get_or-set_other (table_of n g) s i v d z ∙ table_at A d n g i k ∙ sym (h i k z)
 
 -- A bit of a row of which one word is anew.
 pub member-in : (row : List ℕ) (x w s : ℕ) → x < length row → s / 32 ≡ x → member_of (set row x w) s ≡ bit_of w (s % 32)

@@ -33,7 +33,7 @@ pub fn source_bits(n: u8, x: u8) -> u32
         return 0;
     }
     if first + 32 <= end {
-        return 0xFFFFFFFF - low;
+        return u32::MAX - low;
     }
     (1 << (end - first)) - 1 - low
 }
@@ -42,7 +42,7 @@ pub fn source_bits(n: u8, x: u8) -> u32
 fn chosen(mask: u32, v: u32, w: u32) -> u32
     ensures { result ≡ bits_put (has_bit mask) (bit_of v) w }
 {
-    v & mask | w & (mask ^ 0xFFFFFFFF)
+    v & mask | w & (mask ^ u32::MAX)
 }
 
 // The latches of the sources in has, set where their lines are active.

@@ -11,5 +11,5 @@ pub const MOST_SOURCES: u32 = 255;
 pub fn is_count(n: u32) -> bool
     ensures { result ≡ is_count n }
 {
-    (2 <= n) & (n <= MOST_SOURCES)
+    (2..=MOST_SOURCES).contains(&n)
 }
