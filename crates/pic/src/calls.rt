@@ -52,8 +52,7 @@ impl Controller {
     pub fn current_rank(self) -> Rank
         ensures { result ≡ current_rank self }
     {
-        let v = self.scalars;
-        to_rank(v.priord, v.current)
+        to_rank(self.scalars.priord, self.scalars.current)
     }
 
     // The controller with another current rank, as the layer above sets it.
@@ -61,9 +60,7 @@ impl Controller {
     pub fn set_current(mut self, rank: Rank) -> Controller
         ensures { result ≡ set_current self rank }
     {
-        let mut v = self.scalars;
-        v.current = to_field(v.priord, rank);
-        self.scalars = v;
+        self.scalars.current = to_field(self.scalars.priord, rank);
         self
     }
 
@@ -72,11 +69,8 @@ impl Controller {
     pub fn capture(mut self, w: Winner) -> Controller
         ensures { result ≡ capture_of self w }
     {
-        let mut v = self.scalars;
-        let f = to_field(v.priord, w.rank);
-        v.claim = w.source;
-        v.claimed = f;
-        self.scalars = v;
+        self.scalars.claim = w.source;
+        self.scalars.claimed = to_field(self.scalars.priord, w.rank);
         self
     }
 

@@ -8,22 +8,14 @@ use pic::Controller;
 use pic_sets::flips::update;
 use pic_source::Field;
 use pic_source::ranks::to_rank;
-use pic_source::sources::{is_source, waiting};
+use pic_source::sources::is_source;
 
 // Whether s is a source that is enabled and pending.
 #[tactic(auto, unfolding(crate::specs::Ready::ready_at))]
 pub fn ready(c: &Controller, s: u8) -> bool
     ensures { result ≡ ready_at c.now s }
 {
-    let i = s as usize;
-    is_source(c.sources, s as u32)
-        & waiting(
-            c.enable[i],
-            c.trigger[i],
-            c.polarity[i],
-            c.line[i],
-            c.latch[i],
-        )
+    is_source(c.sources, s as u32) & c.waits(s)
 }
 
 // Each source enters the set of its rank, if it is enabled and pending.

@@ -63,9 +63,7 @@ pub(crate) fn write_enable(mut c: Controller, s: u8, v: u32) -> Controller
 pub(crate) fn write_priord(mut c: Controller, v: u32) -> Controller
     ensures { result ≡ written_of c (Some Mpiccfg) v }
 {
-    let mut s = c.scalars;
-    s.priord = (v % 2) as u8;
-    c.scalars = s;
+    c.scalars.priord = (v % 2) as u8;
     c
 }
 

@@ -10,7 +10,6 @@ use pic_comparator::Winner;
 use pic_comparator::trees::balanced;
 use pic_source::Field;
 use pic_source::ranks::to_rank;
-use pic_source::sources::waiting;
 
 // The entering rank of a source: its rank where it is enabled and pending, else 0. A rank of 0 is not eligible, and enters as such.
 fn entering_rank(waits: bool, priord: u8, field: Field) -> u8
@@ -24,15 +23,9 @@ fn entering_ranks(c: Controller) -> [u8; 256]
     ensures { Entering c c.sources result }
 {
     let mut ranks = [0u8; 256];
-    for s in 1..=c.sources as usize {
-        let waits = waiting(
-            c.enable[s],
-            c.trigger[s],
-            c.polarity[s],
-            c.line[s],
-            c.latch[s],
-        );
-        ranks[s] = entering_rank(waits, c.scalars.priord, Field(c.field[s]));
+    for s in 1..=c.sources {
+        let i = s as usize;
+        ranks[i] = entering_rank(c.waits(s), c.scalars.priord, Field(c.field[i]));
     }
     ranks
 }
