@@ -2,7 +2,7 @@
 use Rattle.std.specs.Prelude.{ℕ, cond, pos}
 use Rattle.handlers.specs.declared.Machine.{Machine}
 use Rattle.handlers.specs.Outcome.{Outcome}
-use Rattle.handlers.specs.declared.Margin.{Margin}
+use Rattle.handlers.specs.Margins.{Margin}
 use Rattle.handlers.specs.Machines.{sound_of}
 use Rattle.handlers.specs.Service.{ask, look_at, sample_event, load_event, store_event, csr_read_event, csr_write_event, take_event, open_event, chain_event, return_event, set_mask_event, clock_event, error_event, look_event, commit_event, sound_step_of}
 

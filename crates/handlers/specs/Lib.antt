@@ -3,5 +3,6 @@ pub mod Outcome
 pub mod Fields
 pub mod Machines
 pub mod Service
+pub mod Margins
 pub mod Calls
 pub mod Checked

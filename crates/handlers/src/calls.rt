@@ -3,10 +3,12 @@
 ghost use Rattle.std.specs.Prelude.{◌≡◌, true, false};
 ghost use Rattle.handlers.specs.Machines.{sound_of};
 ghost use Rattle.handlers.specs.Service.{refused};
+ghost use Rattle.handlers.specs.Margins.{margin_numbers};
 ghost use Rattle.handlers.specs.Calls.{sample_of, load_of, store_of, csr_read_of, csr_write_of, take_of, open_of, chain_of, return_of, set_mask_of, clock_of, error_of, look_of, commit_of, step_of, margin_answer};
 
-use crate::{Machine, Margin, Outcome};
+use crate::{Machine, Outcome};
 use outcome::Answering;
+use questions::Refusal;
 
 impl Machine {
     // Question 8 comes first; the event is asked and played where the machine is sound.
@@ -128,19 +130,13 @@ impl Machine {
     }
 
     // The margin: the winner's rank minus the larger of threshold and current.
-    pub fn margin(self) -> Margin
-        ensures { result ≡ margin_answer self }
+    pub fn margin(self) -> Result<i32, Refusal>
+        ensures { margin_numbers result ≡ margin_answer self }
     {
-        if !self.is_sound() {
-            return Margin {
-                margin: 0,
-                refusal: 8,
-            };
-        }
-        let c = self.controller;
-        Margin {
-            margin: c.margin(),
-            refusal: 0,
+        if self.is_sound() {
+            Ok(self.controller.margin())
+        } else {
+            Err(Refusal::NotSound)
         }
     }
 }

@@ -32,13 +32,6 @@ pub struct Answered {
     pub refusal: u8,
 }
 
-// What the margin query answers.
-#[derive(Clone, Copy)]
-pub struct Margin {
-    pub margin: i32,
-    pub refusal: u8,
-}
-
 // A machine that was asked whether it is sound. Its field is private, so that only `start` and `enter` make one.
 #[derive(Clone, Copy)]
 pub struct Checked {

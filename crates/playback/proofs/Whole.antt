@@ -13,7 +13,7 @@ use Rattle.buffers.proofs.Stores.{sets-filled}
 use Rattle.buffers.specs.Filled.{filled}
 use Rattle.pic_source.specs.declared.Rank.{Rank}
 use Rattle.pic.specs.Calls.{current_rank}
-use Rattle.handlers.specs.declared.Margin.{Margin}
+use Rattle.handlers.specs.Margins.{Margin}
 use Rattle.handlers.specs.declared.Machine.{Machine}
 use Rattle.handlers.specs.Machines.{power_on_of}
 use Rattle.handlers.specs.Calls.{margin_answer}

@@ -9,7 +9,7 @@ use Rattle.buffers.specs.Filled.{filled}
 use Rattle.pic_source.specs.declared.Rank.{Rank}
 use Rattle.pic.specs.Calls.{current_rank}
 use Rattle.handlers.specs.declared.Machine.{Machine}
-use Rattle.handlers.specs.declared.Margin.{Margin}
+use Rattle.handlers.specs.Margins.{Margin}
 use Rattle.handlers.specs.Calls.{margin_answer}
 use Rattle.handlers.specs.Machines.{power_on_of}
 use Rattle.claims.specs.declared.Played.{Played}

@@ -1,14 +1,15 @@
+use mathlib.Core.Path.{sym, ◌∙◌}
 use mir.Facts.{to_z-of_z}
 use mir.Syntax.{w32}
-use Rattle.handlers.specs.Calls.{margin_answer}
-use Rattle.handlers.proofs.Answers.{unsound, is-sound}
 use borrow.Author.Rules.{rules}
+use Rattle.questions.specs.Numbers.{number_of}
+use Rattle.handlers.specs.Calls.{margin_answer}
 use Rattle.handlers.proofs.Machine.margin.Goals as goal
 
-pub returns-then-not-is_sound : goal.returns-then-not-is_sound
+pub returns-then-is_sound : goal.returns-then-is_sound
 unfolding margin_answer
-returns-then-not-is_sound c = rw (unsound _ c.is_sound.ensures c.if-not-is_sound.true-raw)
+returns-then-is_sound c = rw (sym c.is_sound.ensures ∙ c.if-is_sound.true, to_z-of_z {w = w32} {z = c.margin.result} (search rules), c.margin.ensures)
 
-pub returns : goal.returns
-unfolding margin_answer
-returns c = rw (is-sound _ c.is_sound.ensures c.if-not-is_sound.false-raw, to_z-of_z {w = w32} {z = c.margin.result} (search rules), c.margin.ensures)
+pub returns-else-is_sound : goal.returns-else-is_sound
+unfolding margin_answer number_of
+returns-else-is_sound c = rw (sym c.is_sound.ensures ∙ c.if-is_sound.false)
