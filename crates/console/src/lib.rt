@@ -2,7 +2,7 @@
 // Which bytes the system gives and takes is outside any contract: these say that the count of bytes read lies within the buffer.
 #![tactic(auto)]
 
-ghost use Rattle.std.specs.Prelude.{◌≡◌, ◌^◌, ◌<◌, ◌≢◌, ◌↔◌, IsTrue, IfOk, IfSome, length, take, slice_index};
+ghost use Rattle.std.specs.Prelude.{◌≡◌, ◌<◌, ◌≢◌, ◌↔◌, IsTrue, IfOk, IfSome, length, take, slice_index};
 ghost use Rattle.console.specs.Counts.{IsPrefixLen};
 ghost use Rattle.std.specs.Io.{StartsWith};
 ghost use Rattle.std.specs.Io.KnownBytes.{Consumes, IsAtEnd};
@@ -175,17 +175,6 @@ pub fn read_input(rt: &HostRuntime, buffer: &mut [u8], usage: &[u8]) -> Option<u
         return read_argument(rt, buffer, usage);
     }
     read_standard(rt, buffer)
-}
-
-// A program that takes one step on what it reads: reads it into a buffer of this size, and stops where that fails.
-pub fn with_input<const SIZE: usize, F: FnOnce(&[u8])>(rt: &HostRuntime, usage: &[u8], step: F)
-    requires size { SIZE < 2 ^ 63 }
-    requires step { F.IsAlwaysCallable step }
-{
-    let mut buffer = [0u8; SIZE];
-    if let Some(length) = read_input(rt, &mut buffer, usage) {
-        step(&buffer[..length]);
-    }
 }
 
 #[cfg(test)]

@@ -12,9 +12,13 @@ fn show(rt: &HostRuntime, record: &[u8]) {
 }
 
 fn main(rt: HostRuntime) {
-    console::with_input::<INPUT_SIZE, _>(
+    let mut record: [u8; INPUT_SIZE] = [0; INPUT_SIZE];
+    let Some(length) = console::read_input(
         &rt,
+        &mut record,
         b"usage: player [FILE]\nplays the record in FILE, or on standard input, and prints it\n",
-        |record| show(&rt, record),
-    );
+    ) else {
+        return;
+    };
+    show(&rt, &record[..length]);
 }

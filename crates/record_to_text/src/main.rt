@@ -24,9 +24,13 @@ fn convert(rt: &HostRuntime, bytes: &[u8]) {
 }
 
 fn main(rt: HostRuntime) {
-    console::with_input::<INPUT_SIZE, _>(
+    let mut bytes: [u8; INPUT_SIZE] = [0; INPUT_SIZE];
+    let Some(length) = console::read_input(
         &rt,
+        &mut bytes,
         b"usage: record_to_text [FILE]\nmakes a text of the record in FILE, or on standard input\n",
-        |bytes| convert(&rt, bytes),
-    );
+    ) else {
+        return;
+    };
+    convert(&rt, &bytes[..length]);
 }

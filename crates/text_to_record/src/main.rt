@@ -1,6 +1,9 @@
 // Makes a record of a text, from a file or from standard input: the record on standard output. A text that is refused is said on standard error.
 #![tactic(auto)]
 
+ghost use Rattle.std.specs.Prelude.{◌≡◌, ◌+◌, length};
+ghost use Rattle.text_reader.specs.Reading.{text_size};
+
 use record::RECORD_SIZE;
 use text_messages::MESSAGE_SIZE;
 use text_reader::{NotRecord, TEXT_SIZE};
@@ -33,10 +36,21 @@ fn convert(rt: &HostRuntime, text: &[u8]) {
     }
 }
 
+// Zeros, to be read into. The contract keeps the prover from writing them out.
+fn buffer() -> [u8; INPUT_SIZE]
+    ensures { text_size + 1 ≡ length result }
+{
+    [0; INPUT_SIZE]
+}
+
 fn main(rt: HostRuntime) {
-    console::with_input::<INPUT_SIZE, _>(
+    let mut text = buffer();
+    let Some(length) = console::read_input(
         &rt,
+        &mut text,
         b"usage: text_to_record [FILE]\nmakes a record of the text in FILE, or on standard input\n",
-        |text| convert(&rt, text),
-    );
+    ) else {
+        return;
+    };
+    convert(&rt, &text[..length]);
 }
