@@ -22,10 +22,6 @@ use Rattle.record.proofs.Walk.{walk_first}
 pub refuses : (r : Refusal) → number_of r ≡ 0 → ⊥
 refuses r = eqb-false (number_of r) 0 (never_0 r)
 
--- What the code asks of a call's answer, asked of the rule that gives it.
-pub answered-no : {r t u : Bool} → r ≡ t → not r ≡ u → not t ≡ u
-answered-no e h = ap not (sym e) ∙ h
-
 -- Questions 2, 22, 3 and 23 by their answers, and then others.
 abbrev four_then : Bool → Bool → Bool → Bool → Verdict → Verdict
 four_then two q22 three q23 next = question 2 two (question 22 q22 (question 3 three (question 23 q23 next)))
@@ -33,26 +29,6 @@ four_then two q22 three q23 next = question 2 two (question 22 q22 (question 3 t
 -- The same of N and n.
 abbrev pub sizes_then : Limits → ℕ → ℕ → Verdict → Verdict
 sizes_then limits s n = four_then (is_count s) (sources_taken limits s) (count_in_range n) (count_taken limits n)
-
--- The number of each no of these, given the answers before it as the code has them.
-module _ (limits : Limits) (s n : ℕ) where
-  pub sizes-no-2 : not (is_count s) ≡ true → 2 ≡ (sizes_then limits s n no_refusal).refusal
-  sizes-no-2 h = rw (not-true (is_count s) h)
-
-  module _ (q2 : not (is_count s) ≡ false) where
-    pub sizes-no-22 : limits.sources < s → 22 ≡ (sizes_then limits s n no_refusal).refusal
-    sizes-no-22 h = rw (not-false (is_count s) q2, lt-leb _ _ h)
-
-    module _ (q22 : s ≤ limits.sources) where
-      pub sizes-no-3 : most_events < n → 3 ≡ (sizes_then limits s n no_refusal).refusal
-      sizes-no-3 h = rw (not-false (is_count s) q2, le-leb _ _ q22, lt-leb _ _ h)
-
-      module _ (q3 : n ≤ most_events) where
-        pub sizes-no-23 : limits.events < n → 23 ≡ (sizes_then limits s n no_refusal).refusal
-        sizes-no-23 h = rw (not-false (is_count s) q2, le-leb _ _ q22, le-leb _ _ q3, lt-leb _ _ h)
-
-        pub sizes-none : n ≤ limits.events → 0 ≡ (sizes_then limits s n no_refusal).refusal
-        sizes-none h = rw (not-false (is_count s) q2, le-leb _ _ q22, le-leb _ _ q3, le-leb _ _ h)
 
 -- The first no decides, with place 0; where there is none, the others do.
 module _ (next : Verdict) where
