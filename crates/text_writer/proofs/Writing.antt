@@ -6,7 +6,7 @@ use native.Mathlib.Omega.{arith}
 use mathlib.Core.List.{List, [], ◌∷◌, ◌++◌, append_assoc, append-nil}
 use lib.Dec.{lit<, lit≤}
 use lib.ListN.{length, get_or, take, length-append}
-use lib.Seq.{length-sets, take_all, take_at, length-take-le}
+use lib.Seq.{length-sets, take_at, length-take-le}
 use Rattle.buffers.proofs.Stores.{sets-filled}
 use Rattle.buffers.specs.Filled.{filled}
 use Rattle.digits.specs.Digits.{decimal, hexadecimal}
@@ -87,7 +87,7 @@ events-snoc (suc i) (x ∷ heads) (y ∷ values) h v =
     ap (λ (l : List ℕ). ended (event_text x y) ++ l) (events-snoc i heads values h' v')
     ∙ sym (append_assoc (ended (event_text x y)) (events_text (take i heads) (take i values)) (ended (event_text (get_or heads i 0) (get_or values i 0))))
 
--- The loop over the events: a turn, and its end.
+-- The loop over the events: the room that is left, and a turn.
 module _ (text : List ℕ) (from : ℕ) (heads values : List ℕ) (same : length heads ≡ length values) (i : ℕ) {at : ℕ} {d : List ℕ}
     (e : Stands text from (events_text (take i heads) (take i values)) at d) where
   pub events-room : i ≤ length heads → at ≤ from + 18 * i
@@ -99,9 +99,6 @@ module _ (text : List ℕ) (from : ℕ) (heads values : List ℕ) (same : length
       let v : i < length values = omega arith in
       rw (add-one, events-snoc i heads values h v)
       (two text from (events_text (take i heads) (take i values)) (ended (event_text (get_or heads i 0) (get_or values i 0))) e e')
-
-  pub events-end : length heads ≤ i → Stands text from (events_text heads values) at d
-  events-end h = let v : length values ≤ i = omega arith in rw (take_all i heads h, take_all i values v) at e
 
 -- The first line, and the events after it.
 module _ (text : List ℕ) (sources : ℕ) (heads values : List ℕ) (small : sources < 1000) (long : 4 + 18 * length heads ≤ length text)
