@@ -1,2 +1,3 @@
 -- Laws of the handler service.
 pub mod Answers
+pub mod Margins

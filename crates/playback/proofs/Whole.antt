@@ -13,7 +13,6 @@ use Rattle.buffers.proofs.Stores.{sets-filled}
 use Rattle.buffers.specs.Filled.{filled}
 use Rattle.pic_source.specs.declared.Rank.{Rank}
 use Rattle.pic.specs.Calls.{current_rank}
-use Rattle.handlers.specs.Margins.{Margin}
 use Rattle.handlers.specs.declared.Machine.{Machine}
 use Rattle.handlers.specs.Machines.{power_on_of}
 use Rattle.handlers.specs.Calls.{margin_answer}
@@ -55,9 +54,9 @@ unfolding ascii
 last-length depth level below size = simp (length-append) (omega (arith, number-length depth, number-length level, sign-length below, number-length size))
 
 -- The last line of a machine.
-pub end-line-is : (m : Machine) {level : Rank} {q : Margin} {below : Bool} {size : ℕ} → level ≡ current_rank m.controller → q ≡ margin_answer m
-    → below ≡ lt_z q.margin (pos 0) → size ≡ nat_abs q.margin → last_line m.service.depth level.0 below size ≡ end_line m
-end-line-is m el eq eb es = rw (eb, es, eq, el)
+pub end-line-is : (m : Machine) {level : Rank} {z : ℤ} {below : Bool} {size : ℕ} → level ≡ current_rank m.controller → z ≡ (margin_answer m).margin
+    → below ≡ lt_z z (pos 0) → size ≡ nat_abs z → last_line m.service.depth level.0 below size ≡ end_line m
+end-line-is m el ez eb es = rw (eb, es, ez, el)
 
 -- The lines of a list, by the most bytes of its events' lines.
 lines-length : (sources : ℕ) (hs ans rs : List ℕ) (m : Machine) (most : ℕ) → length (event_lines 0 hs ans rs) ≤ most

@@ -49,11 +49,10 @@ fn put_end(out: &mut [u8], at: usize, m: Machine) -> usize
     ensures value { result ≡ at + length (end_line m) }
     ensures out_after { out.new ≡ sets out.old at (end_line m) }
 {
-    let q = m.margin();
-    let c = m.controller;
-    let level = c.current_rank();
-    let below = is_below(q.margin);
-    let far = size(q.margin);
+    let margin = m.margin().unwrap_or(0);
+    let level = m.controller.current_rank();
+    let below = is_below(margin);
+    let far = size(margin);
     put_last(out, at, m.service.depth as u64, level.0 as u64, below, far)
 }
 

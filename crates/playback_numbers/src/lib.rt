@@ -34,9 +34,8 @@ fn places(n: usize) -> usize
 fn accepted(sources: u8, events: u16, m: Machine) -> Numbers
     ensures { result ≡ accepted_with sources events m }
 {
-    let q = m.margin();
-    let c = m.controller;
-    let level = c.current_rank();
+    let margin = m.margin().unwrap_or(0);
+    let level = m.controller.current_rank();
     Numbers {
         refusal: 0,
         place: 0,
@@ -44,7 +43,7 @@ fn accepted(sources: u8, events: u16, m: Machine) -> Numbers
         events,
         depth: m.service.depth,
         level: level.0,
-        margin: q.margin,
+        margin,
     }
 }
 
