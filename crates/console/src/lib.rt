@@ -164,6 +164,7 @@ fn has_argument(rt: &impl Env, place: usize) -> bool {
 
 // Reads standard input where the program has no argument, or the file that its one argument names, and answers how many bytes stand at the start of the
 // buffer. Where that fails, it is said on standard error, and nothing is left to be done.
+// Each program takes its own step then: a function that is lent the step would require that it may be called, and no published call has a precondition.
 pub fn read_input(rt: &HostRuntime, buffer: &mut [u8], usage: &[u8]) -> Option<usize>
     ensures within { IfSome result (λ n. IsPrefixLen n buffer.new) }
 {
