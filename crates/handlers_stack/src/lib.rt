@@ -36,7 +36,6 @@ pub fn no_handler() -> Handler
 }
 
 // One handler of n sources: top where it is the uppermost, lowest where it is that, below the rank of the handler under it.
-#[tactic(auto, unfolding(crate::specs::Stacks::handler_sound))]
 fn handler_sound(n: u8, top: bool, lowest: bool, below: Rank, h: Handler) -> bool
     ensures { result ≡ handler_sound n top lowest below h }
 {
