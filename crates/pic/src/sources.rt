@@ -5,9 +5,9 @@ ghost use Rattle.pic.specs.Sources.{waiting_at, winner_of};
 
 use crate::Controller;
 use pic_comparator::{Winner, better};
+use pic_source::Field;
 use pic_source::ranks::to_rank;
 use pic_source::sources::waiting;
-use pic_source::{Field, Rank};
 
 impl Controller {
     // Whether source s is enabled and pending.
@@ -31,10 +31,7 @@ impl Controller {
     {
         let n = self.sources as usize;
         let v = self.scalars;
-        let mut w = Winner {
-            source: 0,
-            rank: Rank(0),
-        };
+        let mut w = Winner::none();
         for s in 1..n + 1 {
             if self.waits(s as u8) {
                 let e = Winner {

@@ -1,4 +1,3 @@
-use Rattle.std.proofs.Common.{refl}
 use Rattle.pic.specs.Sources.{winner_to}
 use Rattle.pic.proofs.Turns.{winner-at, winner-stays-at}
 use Rattle.pic.proofs.Controller.winner.Goals as goal
@@ -6,7 +5,7 @@ use Rattle.pic.proofs.Controller.winner.Goals.{then-waits, else-waits}
 
 pub loop-s-init : goal.loop-s-init
 unfolding winner_to
-loop-s-init c = refl
+loop-s-init c = c.none-w.ensures
 
 pub loop-s-preserved : goal.loop-s-preserved
 loop-s-preserved c =
