@@ -5,6 +5,7 @@ ghost use Rattle.counters_errors.specs.Errors.{error_at, with_error, reset_error
 
 use crate::{ErrorCounter, ErrorCounters, Outcome};
 use outcome::Answering;
+use questions::Refusal;
 
 impl ErrorCounters {
     // The error counters as power-on leaves them.
@@ -62,7 +63,7 @@ impl ErrorCounters {
         ensures { result ≡ error_of self address }
     {
         if 2 < address {
-            return self.refuse(25);
+            return self.refuse_for(Refusal::NoSuchCounter);
         }
         let i = address as u8;
         let e = self.counter(i);

@@ -20,7 +20,7 @@ impl Machine {
         if self.is_sound() {
             event(self)
         } else {
-            self.refuse(8)
+            self.refuse_for(Refusal::NotSound)
         }
     }
 

@@ -5,6 +5,7 @@ ghost use Rattle.handlers.specs.Checked.{start_of, enter_of, checked_step_of, an
 
 use crate::{Answered, Checked, CheckedOutcome, Machine};
 use outcome::Answering;
+use questions::Refusal;
 
 impl Checked {
     // The machine at power-on with n sources; where n is not 2..255, refusal 2 and the machine of 2 sources.
@@ -32,7 +33,7 @@ impl Checked {
         Checked {
             machine: on.machine,
         }
-        .refuse(8)
+        .refuse_for(Refusal::NotSound)
     }
 
     // The machine m in this one's place. A function of its own: stored by `step` itself, the compiler copies the machine once more for each event.

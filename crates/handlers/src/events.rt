@@ -62,7 +62,7 @@ impl Machine {
             self.controller.priority_order(),
             self.service.depth,
         ) {
-            return self.refuse(24);
+            return self.refuse_for(Refusal::PriordInHandler);
         }
         self.lift(pic_registers::store(self.controller, offset, v))
     }
@@ -94,7 +94,7 @@ impl Machine {
         ensures { result ≡ controller_write self address v }
     {
         if !may_write(address, self.service.depth) {
-            return self.refuse(14);
+            return self.refuse_for(Refusal::CurrentInHandler);
         }
         self.lift(pic_csrs::csr_write(self.controller, address, v))
     }
@@ -127,10 +127,10 @@ impl Machine {
         ensures { result ≡ sound_step_of self head value }
     {
         if let Err(refusal) = event::shape(head, value) {
-            return self.refuse(u8::from(refusal));
+            return self.refuse_for(refusal);
         }
         let Ok(kind) = Kind::try_from(event::kind(head)) else {
-            return self.refuse(u8::from(Refusal::NoSuchKind));
+            return self.refuse_for(Refusal::NoSuchKind);
         };
         let address = event::address(head);
         match kind {

@@ -40,7 +40,7 @@ fn next_in(h: Handler, look: Look) -> u32
 }
 
 // Questions 17 and 19: whether a handler is open, and the mask 0.
-#[tactic(auto, unfolding(questions::specs::Numbers::number_in, questions::specs::Numbers::number_of))]
+#[tactic(auto, unfolding(questions::specs::Numbers::number_in))]
 fn handler_question(depth: u8, mask: u8) -> Result<(), Refusal>
     ensures { number_in result ≡ (if nat_lt 0 depth then (if nat_eq mask 0 then 0 else 19) else 17) }
 {
@@ -68,10 +68,10 @@ impl Service {
         ensures { result ≡ take_of self look current }
     {
         if self.mask != 1 {
-            return self.refuse(15);
+            return self.refuse_for(Refusal::InterruptsOff);
         }
         if !is_above(look.margin) {
-            return self.refuse(16);
+            return self.refuse_for(Refusal::NoMargin);
         }
         self.push(look.winner, current).accept(look.meihap)
     }
@@ -100,11 +100,11 @@ impl Service {
         ensures { result ≡ open_of self }
     {
         if self.depth == 0 {
-            return self.refuse(17);
+            return self.refuse_for(Refusal::NoHandler);
         }
         let h = self.uppermost();
         if h.opened != 0 {
-            return self.refuse(18);
+            return self.refuse_for(Refusal::OpenedAlready);
         }
         self.mark(h).accept(u32::from(h.rank.0))
     }
@@ -124,7 +124,7 @@ impl Service {
         ensures { result ≡ chain_of self look }
     {
         if let Err(q) = handler_question(self.depth, self.mask) {
-            return self.refuse(u8::from(q));
+            return self.refuse_for(q);
         }
         self.follow(look)
     }
@@ -163,7 +163,7 @@ impl Service {
     {
         let d = self.depth;
         if let Err(q) = handler_question(d, self.mask) {
-            return self.refuse(u8::from(q));
+            return self.refuse_for(q);
         }
         self.pop().accept(u32::from(d.saturating_sub(1)))
     }
@@ -183,11 +183,11 @@ impl Service {
         ensures { result ≡ set_mask_of self v }
     {
         if 1 < v {
-            return self.refuse(20);
+            return self.refuse_for(Refusal::NotABit);
         }
         let h = self.uppermost();
         if !((v == 0) | ((self.depth == 0) | (h.opened == 1))) {
-            return self.refuse(21);
+            return self.refuse_for(Refusal::NotOpened);
         }
         self.mask = v as u8;
         self.accept(0)
@@ -199,7 +199,7 @@ impl Service {
         ensures { result ≡ look_of self look }
     {
         if let Err(q) = handler_question(self.depth, self.mask) {
-            return self.refuse(u8::from(q));
+            return self.refuse_for(q);
         }
         let h = self.uppermost();
         self.accept(next_in(h, look))
@@ -211,11 +211,11 @@ impl Service {
         ensures { result ≡ commit_of self look n }
     {
         if let Err(q) = handler_question(self.depth, self.mask) {
-            return self.refuse(u8::from(q));
+            return self.refuse_for(q);
         }
         let h = self.uppermost();
         if !may_commit(n, next_in(h, look)) {
-            return self.refuse(26);
+            return self.refuse_for(Refusal::NotTheNext);
         }
         self.serve(look)
     }

@@ -2,7 +2,9 @@
 #![tactic(auto)]
 
 ghost use Rattle.std.specs.Prelude.{◌≡◌};
-ghost use Rattle.outcome.specs.Outcomes.{accepted_with, refused_with};
+ghost use Rattle.outcome.specs.Outcomes.{accepted_with, refused_with, refused_for};
+
+use questions::Refusal;
 
 // The new machine, the answer and the refusal, 0 if the event is accepted. A refused one answers 0 and hands back the machine as it was.
 #[derive(Clone, Copy)]
@@ -34,5 +36,12 @@ pub trait Answering: Sized {
             answer: 0,
             refusal,
         }
+    }
+
+    // It refuses an event by the name of what is wrong.
+    fn refuse_for(self, refusal: Refusal) -> Outcome<Self>
+        ensures { result ≡ refused_for self refusal }
+    {
+        self.refuse(u8::from(refusal))
     }
 }

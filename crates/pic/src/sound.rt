@@ -7,6 +7,7 @@ ghost use Rattle.pic.specs.Calls.{power_on_of};
 use crate::{Controller, Outcome, Scalars};
 use outcome::Answering;
 use pic_source::Field;
+use questions::Refusal;
 use source_count::is_count;
 
 // Whether the values of a source are sound.
@@ -56,7 +57,7 @@ impl Controller {
         if is_count(n) {
             with_sources(n as u8).accept(0)
         } else {
-            with_sources(2).refuse(2)
+            with_sources(2).refuse_for(Refusal::SourceCount)
         }
     }
 

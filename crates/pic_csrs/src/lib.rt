@@ -10,6 +10,7 @@ use outcome::Answering;
 use pic::calls::meihap;
 use pic::{Controller, Outcome, Scalars};
 use pic_source::Field;
+use questions::Refusal;
 
 #[derive(Clone, Copy)]
 pub enum Csr {
@@ -75,7 +76,7 @@ pub fn csr_read(c: Controller, address: u32) -> Outcome
 {
     match csr_at(address) {
         Some(csr) => c.accept(csr_value(c.scalars, csr)),
-        None => c.refuse(12),
+        None => c.refuse_for(Refusal::NoSuchCsr),
     }
 }
 
@@ -85,10 +86,10 @@ pub fn csr_write(mut c: Controller, address: u32, v: u32) -> Outcome
     ensures { result ≡ csr_write_of c address v }
 {
     let Some(csr) = csr_at(address) else {
-        return c.refuse(12);
+        return c.refuse_for(Refusal::NoSuchCsr);
     };
     match csr {
-        Csr::Meihap => c.refuse(13),
+        Csr::Meihap => c.refuse_for(Refusal::ReadOnlyCsr),
         Csr::Meicpct => {
             let w = c.winner();
             c.capture(w).accept(0)

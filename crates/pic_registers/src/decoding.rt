@@ -48,7 +48,7 @@ pub(crate) fn register_at(n: u8, offset: u32) -> Option<Register>
 }
 
 // Questions 10 and 11 of an offset.
-#[tactic(auto, unfolding(crate::specs::Offsets::offset_refusal, questions::specs::Numbers::number_in, questions::specs::Numbers::number_of))]
+#[tactic(auto, unfolding(crate::specs::Offsets::offset_refusal, questions::specs::Numbers::number_in))]
 pub(crate) fn offset_refusal(offset: u32) -> Result<(), Refusal>
     ensures { number_in result ≡ offset_refusal offset }
 {

@@ -18,6 +18,7 @@ use crate::values::{
 };
 use outcome::Answering;
 use pic::{Controller, Outcome};
+use questions::Refusal;
 
 // The registers by source number, or by word for meip.
 #[derive(Clone, Copy)]
@@ -67,7 +68,7 @@ pub fn sample(c: Controller, x: u32, v: u32) -> Outcome
     ensures { result ≡ sample_of c x v }
 {
     if 7 < x {
-        return c.refuse(9);
+        return c.refuse_for(Refusal::NoSuchWord);
     }
     take_lines(c, x as usize, v).accept(0)
 }
@@ -77,7 +78,7 @@ pub fn load(c: Controller, offset: u32) -> Outcome
     ensures { result ≡ load_of c offset }
 {
     if let Err(q) = offset_refusal(offset) {
-        return c.refuse(u8::from(q));
+        return c.refuse_for(q);
     }
     let a = match register_at(c.sources, offset) {
         Some(r) => read(c, r),
@@ -91,7 +92,7 @@ pub fn store(c: Controller, offset: u32, v: u32) -> Outcome
     ensures { result ≡ store_of c offset v }
 {
     if let Err(q) = offset_refusal(offset) {
-        return c.refuse(u8::from(q));
+        return c.refuse_for(q);
     }
     match register_at(c.sources, offset) {
         Some(r) => write(c, r, v).accept(0),

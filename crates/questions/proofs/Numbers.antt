@@ -5,7 +5,6 @@ use Rattle.questions.specs.declared.Refusal.TheVariants as refusal
 use Rattle.questions.specs.Numbers.{number_of}
 
 pub never_0 : (r : Refusal) → eqb (number_of r) 0 ≡ false
-unfolding number_of
 never_0 refusal.TooShort = refl
 never_0 refusal.SourceCount = refl
 never_0 refusal.TooManyEvents = refl

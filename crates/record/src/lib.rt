@@ -104,7 +104,7 @@ fn walk_bytes(bytes: &[u8], n: usize) -> Result<(), Refused>
 }
 
 // Questions 2, 22, 3 and 23 of N and n.
-#[tactic(auto, unfolding(questions::specs::Numbers::number_of, questions::specs::Numbers::number_in))]
+#[tactic(auto, unfolding(questions::specs::Numbers::number_in))]
 fn ask_sizes(limits: Limits, sources: u32, count: u32) -> Result<(), Refusal>
     ensures { number_in result ≡ (question 2 (is_count sources) (question 22 (sources_taken limits sources)
         (question 3 (count_in_range count) (question 23 (count_taken limits count) no_refusal)))).refusal }
@@ -125,7 +125,7 @@ fn ask_sizes(limits: Limits, sources: u32, count: u32) -> Result<(), Refusal>
 }
 
 // Questions 1 to 7, reading.
-#[tactic(auto, unfolding(questions::specs::Numbers::number_of, questions::specs::Numbers::number_in, crate::specs::Questions::read_verdict))]
+#[tactic(auto, unfolding(questions::specs::Numbers::number_in, crate::specs::Questions::read_verdict))]
 fn ask_reading(
     limits: Limits,
     bytes: &[u8],

@@ -77,7 +77,7 @@ fn walk_arrays(heads: &[u32], values: &[u32]) -> Result<(), Refused>
 }
 
 // Questions 2 to 7 and 27, writing.
-#[tactic(auto, unfolding(questions::specs::Numbers::number_of, record::specs::Questions::write_verdict))]
+#[tactic(auto, unfolding(record::specs::Questions::write_verdict))]
 fn ask_writing(sources: u32, heads: &[u32], values: &[u32], space: usize) -> Result<(), Refused>
     ensures { verdict_in result ≡ write_verdict sources heads.now values.now space }
 {

@@ -9,7 +9,7 @@ pub returns-in-Meihap : goal.returns-in-Meihap
 unfolding csr_write_of csr_at
 returns-in-Meihap c =
     let z : c.args.address ≡ 0xFC8 = csr-address _ Meihap (sym (rw c.in-Meihap.is at c.in-Some.ensures)) in
-    rw z c.refuse-in-Meihap.ensures
+    rw z c.refuse_for-in-Meihap.ensures
 
 pub returns-in-Meicpct : goal.returns-in-Meicpct
 unfolding csr_write_of csr_at

@@ -11,7 +11,7 @@ use Rattle.pic_registers.proofs.load.Goals.{in-Some, in-None}
 
 pub returns-in-Err : goal.returns-in-Err
 unfolding load_of number_in
-returns-in-Err c = rw (← c.in-Err.ensures, never_0 c.in-Err.q, ← c.from.ensures) c.refuse.ensures
+returns-in-Err c = rw (← c.in-Err.ensures, never_0 c.in-Err.q) c.refuse_for.ensures
 
 pub read-a-requires : goal.read-a-requires
 read-a-requires c =

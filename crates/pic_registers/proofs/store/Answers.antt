@@ -6,7 +6,7 @@ use Rattle.pic_registers.proofs.store.Goals as goal
 
 pub returns-in-Err : goal.returns-in-Err
 unfolding store_of number_in
-returns-in-Err c = rw (← c.in-Err.ensures, never_0 c.in-Err.q, ← c.from.ensures) c.refuse.ensures
+returns-in-Err c = rw (← c.in-Err.ensures, never_0 c.in-Err.q) c.refuse_for.ensures
 
 pub returns-in-Some : goal.returns-in-Some
 unfolding store_of number_in

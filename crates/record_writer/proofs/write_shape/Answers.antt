@@ -6,11 +6,11 @@ use Rattle.record.proofs.Retired.{of-six, of-retired, of_other}
 use Rattle.record_writer.proofs.write_shape.Goals as goal
 
 pub returns-in_default : goal.returns-in_default
-unfolding number_of number_in
+unfolding number_in
 returns-in_default c = sym (of-six _ _ (no-kind c.args.head c.args.value c.in_default.ensures.1 c.kind.ensures))
 
 pub returns-in-Chain : goal.returns-in-Chain
-unfolding number_of number_in
+unfolding number_in
 returns-in-Chain c = sym (of-retired _ _ (sym c.kind.ensures ∙ sym c.in-Ok.ensures ∙ ap number_of_kind c.in-Chain.is))
 
 pub returns-in_default-kind : goal.returns-in_default-kind

@@ -4,7 +4,7 @@ use Rattle.counters_errors.proofs.ErrorCounters.count_error.Goals as goal
 
 pub returns-then-address-gt2 : goal.returns-then-address-gt2
 unfolding error_of
-returns-then-address-gt2 c = rw (lt-leb _ 2 c.if-address-gt2.true, c.refuse.ensures)
+returns-then-address-gt2 c = rw (lt-leb _ 2 c.if-address-gt2.true, c.refuse_for.ensures)
 
 pub returns : goal.returns
 unfolding error_of

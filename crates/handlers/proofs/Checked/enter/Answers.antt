@@ -8,4 +8,4 @@ returns-then-is_sound c = rw (sym c.is_sound.ensures ∙ c.if-is_sound.true, c.a
 
 pub returns : goal.returns
 unfolding enter_of
-returns c = rw (sym c.is_sound.ensures ∙ c.if-is_sound.false, c.refuse.ensures, c.power_on-on.ensures)
+returns c = rw (sym c.is_sound.ensures ∙ c.if-is_sound.false, c.refuse_for.ensures, c.power_on-on.ensures)

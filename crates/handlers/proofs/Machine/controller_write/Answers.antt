@@ -7,7 +7,7 @@ unfolding controller_write
 returns-then-not-may_write c =
     let asked = c.before.before in
     let a = asked.args in
-    rw (answered-no (may_write a.self a.address) asked.may_write.ensures c.if-not-may_write.true-raw) c.refuse.ensures
+    rw (answered-no (may_write a.self a.address) asked.may_write.ensures c.if-not-may_write.true-raw) c.refuse_for.ensures
 
 pub returns : goal.returns
 unfolding controller_write

@@ -11,5 +11,5 @@ unfolding margin_answer
 returns-then-is_sound c = rw (sym c.is_sound.ensures ∙ c.if-is_sound.true, to_z-of_z {w = w32} {z = c.margin.result} (search rules), c.margin.ensures)
 
 pub returns-else-is_sound : goal.returns-else-is_sound
-unfolding margin_answer number_of
+unfolding margin_answer
 returns-else-is_sound c = rw (sym c.is_sound.ensures ∙ c.if-is_sound.false)

@@ -26,7 +26,7 @@ pub returns-in-Err : goal.returns-in-Err
 unfolding sound_step_of number_in
 returns-in-Err c =
     let no = eqb-false (number_of c.in-Err.refusal) 0 (never_0 c.in-Err.refusal) in
-    rw (← c.in-Err.ensures, ne_eqb _ _ no, ← c.from.ensures) c.refuse.ensures
+    rw (← c.in-Err.ensures, ne_eqb _ _ no) c.refuse_for.ensures
 
 pub returns-in_default-try_from : goal.returns-in_default-try_from
 unfolding number_in

@@ -13,7 +13,7 @@ pub returns-then-not-may_store : goal.returns-then-not-may_store
 unfolding store_event
 returns-then-not-may_store c =
     let a = c.args in
-    rw (answered-no (may_store a.self a.offset a.v) (asked (goal.at.returns-then-not-may_store c).After-may_store) c.if-not-may_store.true-raw) c.refuse.ensures
+    rw (answered-no (may_store a.self a.offset a.v) (asked (goal.at.returns-then-not-may_store c).After-may_store) c.if-not-may_store.true-raw) c.refuse_for.ensures
 
 pub returns : goal.returns
 unfolding store_event

@@ -5,4 +5,4 @@ use Rattle.handlers_service.proofs.Service.chain.Goals as goal
 
 pub returns-in-Err : goal.returns-in-Err
 unfolding chain_of number_in
-returns-in-Err c = rw (handler-no _ _ _ c.in-Err.ensures, ← c.from.ensures) c.refuse.ensures
+returns-in-Err c = rw (handler-no _ _ _ c.in-Err.ensures) c.refuse_for.ensures

@@ -5,7 +5,7 @@ use Rattle.handlers_service.proofs.Service.look.Goals as goal
 
 pub returns-in-Err : goal.returns-in-Err
 unfolding look_of number_in
-returns-in-Err c = rw (handler-no _ _ _ c.in-Err.ensures, ← c.from.ensures) c.refuse.ensures
+returns-in-Err c = rw (handler-no _ _ _ c.in-Err.ensures) c.refuse_for.ensures
 
 pub returns : goal.returns
 unfolding look_of number_in

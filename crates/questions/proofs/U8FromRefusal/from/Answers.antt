@@ -6,7 +6,6 @@ use Rattle.questions.specs.Numbers.{number_of}
 use Rattle.questions.proofs.U8FromRefusal.from.Goals as goal
 
 one-more : (r : Refusal) → denote.Enum.Declared.tag_of the_type r + 1 ≡ number_of r
-unfolding number_of
 one-more refusal.TooShort = refl
 one-more refusal.SourceCount = refl
 one-more refusal.TooManyEvents = refl
