@@ -16,7 +16,7 @@ use Rattle.claims.specs.Play.{answers_of, refusals_of, events_played, played_of}
 use Rattle.claims.proofs.Playing.{played-all}
 use Rattle.record.specs.Record.{board}
 use Rattle.playback.proofs.Reading.{WasRead, WasRefused}
-use Rattle.playback_numbers.specs.declared.Numbers.{Numbers}
+use Rattle.playback_numbers.specs.Numbers.{Numbers}
 use Rattle.playback_numbers.specs.Numbers.{accepted_with, refused_with, numbers_of, answers_left, refusals_left}
 
 -- The numbers of a machine, as the queries answered them.

@@ -20,10 +20,10 @@ use Rattle.claims.proofs.Playing.{each-length}
 use Rattle.playback.specs.Print.{print_of, refused_line}
 use Rattle.playback.proofs.Printing.{lines-first}
 use Rattle.playback.proofs.Reading.{print-done, print-refused}
-use Rattle.playback_numbers.specs.declared.Numbers.{Numbers}
+use Rattle.playback_numbers.specs.Numbers.{Numbers}
 use Rattle.playback_numbers.specs.Numbers.{verdict_of, start_of, accepted_with, refused_with, numbers_of, answers_left, refusals_left}
 use Rattle.playback_numbers.specs.Prints.{lines_of}
-use Rattle.record.proofs.Places.{same-verdict}
+use Rattle.record.proofs.Places.{same-verdict, place-few}
 
 -- The rule, by the verdict.
 numbers-yes : (bytes : List ℕ) (a b : ℕ) → all_yes (verdict_of bytes a b) ≡ true
@@ -35,6 +35,14 @@ numbers-no : (bytes : List ℕ) (a b : ℕ) → all_yes (verdict_of bytes a b) �
     → numbers_of bytes a b ≡ refused_with (verdict_of bytes a b).refusal (verdict_of bytes a b).place
 unfolding numbers_of
 numbers-no bytes a b e = rw e
+
+-- No place is beyond the most events.
+pub place-small : (bytes : List ℕ) (a b : ℕ) → (numbers_of bytes a b).place ≤ most_events
+place-small bytes a b = by-case (all_yes (verdict_of bytes a b)) refl
+  where
+    by-case : (t : Bool) → all_yes (verdict_of bytes a b) ≡ t → (numbers_of bytes a b).place ≤ most_events
+    by-case true e = rw (numbers-yes bytes a b e) (omega arith)
+    by-case false e = rw (numbers-no bytes a b e) (omega (arith, place-few board bytes a b (eqb-false _ _ e)))
 
 -- Arrays that hold the record's n events get the player's verdict.
 players : (bytes : List ℕ) (a b : ℕ) → (count_of bytes ≤ most_events → (count_of bytes ≤ a) × (count_of bytes ≤ b)) → verdict_of bytes a b ≡ board_verdict bytes

@@ -1,5 +1,5 @@
 -- Document 01, "The player": what it prints of a record, as numbers.
-use Rattle.std.specs.Prelude.{ℕ, ◌≤◌, cond, ◌≡◌, List, length, leb, pos}
+use Rattle.std.specs.Prelude.{ℕ, ℤ, ◌≤◌, cond, ◌≡◌, List, length, leb, pos, Result, Ok, Err}
 use Rattle.record.specs.Verdict.{Verdict}
 use Rattle.record.specs.Record.{board, most_events, sources_of, heads_of, values_of}
 use Rattle.record.specs.Questions.{read_verdict}
@@ -9,7 +9,9 @@ use Rattle.handlers.specs.declared.Machine.{Machine}
 use Rattle.handlers.specs.Machines.{power_on_of}
 use Rattle.handlers.specs.Calls.{margin_answer}
 use Rattle.claims.specs.Play.{end_of, answers_of, refusals_of}
-use Rattle.playback_numbers.specs.declared.Numbers.{Numbers}
+use Rattle.playback_numbers.specs.declared.Numbers as told
+use Rattle.questions.specs.Numbers.{number_of}
+use Rattle.record.specs.declared.Refused.{Refused}
 
 -- Questions 1 to 7. The two lent arrays are the destination: 5 asks whether each of them has n places.
 abbrev pub verdict_of : List ℕ → ℕ → ℕ → Verdict
@@ -18,6 +20,17 @@ verdict_of bytes answer_places refusal_places = read_verdict board bytes answer_
 -- The machine that power-on with the record's N hands back.
 abbrev pub start_of : List ℕ → Machine
 start_of bytes = (power_on_of (sources_of bytes)).machine
+
+-- What playing a record answers: the record's refusal and its place, 0 and 0 if it was accepted; N and n; and of the machine after all events, how many handlers are
+-- open, current's rank and the margin.
+pub record Numbers : Type 0 where
+  pub refusal : ℕ
+  pub place : ℕ
+  pub sources : ℕ
+  pub events : ℕ
+  pub depth : ℕ
+  pub level : ℕ
+  pub margin : ℤ
 
 -- Accepted: N and n; how many handlers are open; level, which is current's rank; and the margin.
 abbrev pub accepted_with : ℕ → ℕ → Machine → Numbers
@@ -35,6 +48,12 @@ accepted_with n count m =
 -- Refused: the number and a place, and 0 for all else.
 abbrev pub refused_with : ℕ → ℕ → Numbers
 refused_with number at = record { refusal = number; place = at; sources = 0; events = 0; depth = 0; level = 0; margin = pos 0 }
+
+-- All of them, of each answer.
+abbrev pub all_numbers : Result told.Numbers Refused → Numbers
+all_numbers (Ok q) =
+    record { refusal = 0; place = 0; sources = q.sources; events = q.events; depth = q.depth; level = q.level; margin = q.margin }
+all_numbers (Err r) = refused_with (number_of r.refusal) r.place
 
 -- The numbers of a record, for arrays with so many places.
 unfoldable pub numbers_of : List ℕ → ℕ → ℕ → Numbers

@@ -2,7 +2,7 @@
 use Rattle.std.specs.Prelude.{ℕ, List, ◌++◌, pos, nat_abs}
 use Rattle.std.specs.Int.Signed.{lt_z}
 use Rattle.playback.specs.Print.{first_line, event_lines, last_line}
-use Rattle.playback_numbers.specs.declared.Numbers.{Numbers}
+use Rattle.playback_numbers.specs.Numbers.{Numbers}
 
 -- The lines of a record that is accepted, from its heads, the numbers and the two arrays.
 abbrev pub lines_of : Numbers → List ℕ → List ℕ → List ℕ → List ℕ

@@ -2,17 +2,14 @@
 #![tactic(auto)]
 
 ghost use Rattle.std.specs.Prelude.{◌≡◌, length};
-ghost use Rattle.playback_numbers.specs.Numbers.{accepted_with, refused_with, numbers_of, answers_left, refusals_left, ServesFor};
+ghost use Rattle.playback_numbers.specs.Numbers.{all_numbers, accepted_with, numbers_of, answers_left, refusals_left, ServesFor};
 
 use handlers::Machine;
-use record::MOST_EVENTS;
+use record::{MOST_EVENTS, Refused};
 
-// What playing a record answers: the record's refusal and its place, 0 and 0 if it was accepted; N and n; and of the machine after all events, how many handlers
-// are open, current's rank and the margin. Refused, all but the first two are 0.
-#[derive(Clone, Copy)]
+// What is told of a record that was played: N and n; and of the machine after all events, how many handlers are open, current's rank and the margin.
+#[derive(Clone, Copy, Debug, PartialEq, Eq)]
 pub struct Numbers {
-    pub refusal: u8,
-    pub place: u16,
     pub sources: u8,
     pub events: u16,
     pub depth: u8,
@@ -32,33 +29,14 @@ fn places(n: usize) -> usize
 
 // The numbers of a record that is accepted, by the machine after its events.
 fn accepted(sources: u8, events: u16, m: Machine) -> Numbers
-    ensures { result ≡ accepted_with sources events m }
+    ensures { all_numbers (Ok result) ≡ accepted_with sources events m }
 {
-    let margin = m.margin().unwrap_or(0);
-    let level = m.controller.current_rank();
     Numbers {
-        refusal: 0,
-        place: 0,
         sources,
         events,
         depth: m.service.depth,
-        level: level.0,
-        margin,
-    }
-}
-
-// The numbers of a record that is refused.
-fn refused(refusal: u8, place: u16) -> Numbers
-    ensures { result ≡ refused_with refusal place }
-{
-    Numbers {
-        refusal,
-        place,
-        sources: 0,
-        events: 0,
-        depth: 0,
-        level: 0,
-        margin: 0,
+        level: m.controller.current_rank().0,
+        margin: m.margin().unwrap_or(0),
     }
 }
 
@@ -69,32 +47,27 @@ fn play_into(
     values: &mut [u32],
     answers: &mut [u32],
     refusals: &mut [u8],
-) -> Numbers
+) -> Result<Numbers, Refused>
     requires { ServesFor (length heads.old) (length answers.old) × ServesFor (length values.old) (length refusals.old) }
-    ensures value { result ≡ numbers_of «record».now (length answers.old) (length refusals.old) }
+    ensures value { all_numbers result ≡ numbers_of «record».now (length answers.old) (length refusals.old) }
     ensures answers_after { answers.new ≡ answers_left «record».now answers.old refusals.old }
     ensures refusals_after { refusals.new ≡ refusals_left «record».now answers.old refusals.old }
 {
-    match record::read(record, heads, values) {
-        Ok(sizes) => {
-            let played = claims::play(
-                sizes.sources,
-                &heads[..sizes.events],
-                &values[..sizes.events],
-                answers,
-                refusals,
-            );
-            let m = played.machine;
-            accepted(sizes.sources as u8, sizes.events as u16, m)
-        }
-        Err(no) => refused(u8::from(no.refusal), no.place as u16),
-    }
+    let sizes = record::read(record, heads, values)?;
+    let played = claims::play(
+        sizes.sources,
+        &heads[..sizes.events],
+        &values[..sizes.events],
+        answers,
+        refusals,
+    );
+    Ok(accepted(sizes.sources as u8, sizes.events as u16, played.machine))
 }
 
 // Plays a record from its bytes. Accepted, what its events answer and what they are refused with stands in the first n places of the two arrays; refused, both
 // stay as they were. Question 5 asks whether both have n places.
-pub fn play(record: &[u8], answers: &mut [u32], refusals: &mut [u8]) -> Numbers
-    ensures value { result ≡ numbers_of «record».now (length answers.old) (length refusals.old) }
+pub fn play(record: &[u8], answers: &mut [u32], refusals: &mut [u8]) -> Result<Numbers, Refused>
+    ensures value { all_numbers result ≡ numbers_of «record».now (length answers.old) (length refusals.old) }
     ensures answers_after { answers.new ≡ answers_left «record».now answers.old refusals.old }
     ensures refusals_after { refusals.new ≡ refusals_left «record».now answers.old refusals.old }
 {

@@ -2,7 +2,7 @@
 use mathlib.Core.Path.{◌≡◌, ap}
 use mathlib.Core.List.{[], ◌∷◌}
 use lib.IntN.{ℤ, pos}
-use Rattle.playback_numbers.specs.declared.Numbers.{Numbers}
+use Rattle.playback_numbers.specs.Numbers.{Numbers}
 use Rattle.veer_eh1.specs.End.{seven_of}
 
 pub seven_is : {q q' : Numbers} {a b c d e f z : ℤ} → q ≡ q' → a ≡ pos q.refusal → b ≡ pos q.place → c ≡ pos q.sources → d ≡ pos q.events

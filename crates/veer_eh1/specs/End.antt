@@ -1,6 +1,6 @@
 -- The numbers of a record, as C has them.
 use Rattle.std.specs.Prelude.{List, [], ◌∷◌, ℤ, pos}
-use Rattle.playback_numbers.specs.declared.Numbers.{Numbers}
+use Rattle.playback_numbers.specs.Numbers.{Numbers}
 
 -- Seven numbers with a sign: refusal, place, sources, events, open, level, margin.
 abbrev pub seven_of : Numbers → List ℤ

@@ -31,15 +31,23 @@ pub extern "C" fn veer_eh1_numbers(
     ensures refusals_after { refusals.new ≡ refusals_left «record».now answers.old refusals.old }
     ensures end_after { end.new ≡ seven_of (numbers_of «record».now (length answers.old) (length refusals.old)) }
 {
-    let q = playback_numbers::play(record, answers, refusals);
-    *end = [
-        q.refusal as i32,
-        q.place as i32,
-        q.sources as i32,
-        q.events as i32,
-        q.depth as i32,
-        q.level as i32,
-        q.margin,
-    ];
-    q.refusal
+    match playback_numbers::play(record, answers, refusals) {
+        Ok(q) => {
+            *end = [
+                0,
+                0,
+                i32::from(q.sources),
+                i32::from(q.events),
+                i32::from(q.depth),
+                i32::from(q.level),
+                q.margin,
+            ];
+            0
+        }
+        Err(no) => {
+            let refusal = u8::from(no.refusal);
+            *end = [i32::from(refusal), no.place as i32, 0, 0, 0, 0, 0];
+            refusal
+        }
+    }
 }
