@@ -21,10 +21,7 @@ pub struct Numbers {
 fn places(n: usize) -> usize
     ensures { ServesFor result n }
 {
-    if MOST_EVENTS < n {
-        return MOST_EVENTS;
-    }
-    n
+    n.min(MOST_EVENTS)
 }
 
 // The numbers of a record that is accepted, by the machine after its events.
