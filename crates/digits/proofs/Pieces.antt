@@ -42,27 +42,6 @@ pub put-behind : (buffer : List ℕ) (at : ℕ) (s t : List ℕ) {d₁ d₂ : Li
     → a₂ ≡ place_after d₁ a₁ t → d₂ ≡ put_at d₁ a₁ t → Stands buffer at (s ++ t) a₂ d₂
 put-behind buffer at s t {d₁} {d₂} {a₁} {a₂} h stands e f = two buffer at s t stands (put d₁ a₁ t (room-second buffer at s t h stands) e f)
 
--- Two pieces in a row.
-pub two-pieces : (buffer : List ℕ) (at : ℕ) (s t : List ℕ) {d₁ d₂ : List ℕ} {a₁ a₂ : ℕ} → at + length (s ++ t) ≤ length buffer
-    → a₁ ≡ place_after buffer at s → d₁ ≡ put_at buffer at s → a₂ ≡ place_after d₁ a₁ t → d₂ ≡ put_at d₁ a₁ t → Stands buffer at (s ++ t) a₂ d₂
-two-pieces buffer at s t h e₁ f₁ e₂ f₂ = put-behind buffer at s t h (put buffer at s (room-first (length buffer) at s t h) e₁ f₁) e₂ f₂
-
--- Three pieces in a row.
-pub three : (buffer : List ℕ) (at : ℕ) (s t u : List ℕ) {d₁ d₂ d₃ : List ℕ} {a₁ a₂ a₃ : ℕ} → at + length (s ++ t ++ u) ≤ length buffer
-    → a₁ ≡ place_after buffer at s → d₁ ≡ put_at buffer at s → a₂ ≡ place_after d₁ a₁ t → d₂ ≡ put_at d₁ a₁ t
-    → a₃ ≡ place_after d₂ a₂ u → d₃ ≡ put_at d₂ a₂ u → Stands buffer at (s ++ t ++ u) a₃ d₃
-three buffer at s t u h e₁ f₁ e₂ f₂ e₃ f₃ =
-    put-behind buffer at (s ++ t) u h (two-pieces buffer at s t (room-first (length buffer) at (s ++ t) u h) e₁ f₁ e₂ f₂) e₃ f₃
-
--- Four pieces in a row.
-pub four : (buffer : List ℕ) (at : ℕ) (t₁ t₂ t₃ t₄ : List ℕ) {d₁ d₂ d₃ d₄ : List ℕ} {a₁ a₂ a₃ a₄ : ℕ}
-    → at + length (t₁ ++ t₂ ++ t₃ ++ t₄) ≤ length buffer
-    → a₁ ≡ place_after buffer at t₁ → d₁ ≡ put_at buffer at t₁ → a₂ ≡ place_after d₁ a₁ t₂ → d₂ ≡ put_at d₁ a₁ t₂
-    → a₃ ≡ place_after d₂ a₂ t₃ → d₃ ≡ put_at d₂ a₂ t₃ → a₄ ≡ place_after d₃ a₃ t₄ → d₄ ≡ put_at d₃ a₃ t₄
-    → Stands buffer at (t₁ ++ t₂ ++ t₃ ++ t₄) a₄ d₄
-four buffer at t₁ t₂ t₃ t₄ h e₁ f₁ e₂ f₂ e₃ f₃ e₄ f₄ =
-    put-behind buffer at (t₁ ++ t₂ ++ t₃) t₄ h (three buffer at t₁ t₂ t₃ (room-first (length buffer) at (t₁ ++ t₂ ++ t₃) t₄ h) e₁ f₁ e₂ f₂ e₃ f₃) e₄ f₄
-
 -- A text that is bracketed another way.
 pub stands-as : (buffer : List ℕ) (at : ℕ) {a : ℕ} {d s t : List ℕ} → s ≡ t → Stands buffer at s a d → Stands buffer at t a d
 stands-as buffer at {a} {d} e stands = subst (λ (t : List ℕ). Stands buffer at t a d) e stands
