@@ -1,11 +1,13 @@
 -- A text put into a buffer piece by piece.
 use Prim.Native.Nat.{ℕ, ◌+◌, ◌≤◌}
+use native.Mathlib.Nat.{add-zero}
 use native.Mathlib.Omega.{arith}
-use mathlib.Core.Path.{◌≡◌, sym, subst, ap, ◌∙◌}
-use mathlib.Core.List.{List, ◌++◌}
+use mathlib.Core.Path.{◌≡◌, refl, sym, subst, ap, ◌∙◌}
+use mathlib.Core.List.{List, [], ◌∷◌, ◌++◌}
 use lib.ListN.{length, length-append}
 use lib.Seq.{sets, length-sets}
 use Rattle.buffers.proofs.Stores.{sets_then}
+use Rattle.digits.specs.Pieces.{joined_behind, joined, put_each, place_after_each}
 use Rattle.digits.specs.Put.{put_at, place_after}
 use Rattle.digits.proofs.Stores.{fitting}
 
@@ -40,27 +42,36 @@ pub put-behind : (buffer : List ℕ) (at : ℕ) (s t : List ℕ) {d₁ d₂ : Li
     → a₂ ≡ place_after d₁ a₁ t → d₂ ≡ put_at d₁ a₁ t → Stands buffer at (s ++ t) a₂ d₂
 put-behind buffer at s t {d₁} {d₂} {a₁} {a₂} h stands e f = two buffer at s t stands (put d₁ a₁ t (room-second buffer at s t h stands) e f)
 
--- Two pieces in a row.
-pub two-pieces : (buffer : List ℕ) (at : ℕ) (s t : List ℕ) {d₁ d₂ : List ℕ} {a₁ a₂ : ℕ} → at + length (s ++ t) ≤ length buffer
-    → a₁ ≡ place_after buffer at s → d₁ ≡ put_at buffer at s → a₂ ≡ place_after d₁ a₁ t → d₂ ≡ put_at d₁ a₁ t → Stands buffer at (s ++ t) a₂ d₂
-two-pieces buffer at s t h e₁ f₁ e₂ f₂ = put-behind buffer at s t h (put buffer at s (room-first (length buffer) at s t h) e₁ f₁) e₂ f₂
-
--- Three pieces in a row.
-pub three : (buffer : List ℕ) (at : ℕ) (s t u : List ℕ) {d₁ d₂ d₃ : List ℕ} {a₁ a₂ a₃ : ℕ} → at + length (s ++ t ++ u) ≤ length buffer
-    → a₁ ≡ place_after buffer at s → d₁ ≡ put_at buffer at s → a₂ ≡ place_after d₁ a₁ t → d₂ ≡ put_at d₁ a₁ t
-    → a₃ ≡ place_after d₂ a₂ u → d₃ ≡ put_at d₂ a₂ u → Stands buffer at (s ++ t ++ u) a₃ d₃
-three buffer at s t u h e₁ f₁ e₂ f₂ e₃ f₃ =
-    put-behind buffer at (s ++ t) u h (two-pieces buffer at s t (room-first (length buffer) at (s ++ t) u h) e₁ f₁ e₂ f₂) e₃ f₃
-
--- Four pieces in a row.
-pub four : (buffer : List ℕ) (at : ℕ) (t₁ t₂ t₃ t₄ : List ℕ) {d₁ d₂ d₃ d₄ : List ℕ} {a₁ a₂ a₃ a₄ : ℕ}
-    → at + length (t₁ ++ t₂ ++ t₃ ++ t₄) ≤ length buffer
-    → a₁ ≡ place_after buffer at t₁ → d₁ ≡ put_at buffer at t₁ → a₂ ≡ place_after d₁ a₁ t₂ → d₂ ≡ put_at d₁ a₁ t₂
-    → a₃ ≡ place_after d₂ a₂ t₃ → d₃ ≡ put_at d₂ a₂ t₃ → a₄ ≡ place_after d₃ a₃ t₄ → d₄ ≡ put_at d₃ a₃ t₄
-    → Stands buffer at (t₁ ++ t₂ ++ t₃ ++ t₄) a₄ d₄
-four buffer at t₁ t₂ t₃ t₄ h e₁ f₁ e₂ f₂ e₃ f₃ e₄ f₄ =
-    put-behind buffer at (t₁ ++ t₂ ++ t₃) t₄ h (three buffer at t₁ t₂ t₃ (room-first (length buffer) at (t₁ ++ t₂ ++ t₃) t₄ h) e₁ f₁ e₂ f₂ e₃ f₃) e₄ f₄
-
 -- A text that is bracketed another way.
 pub stands-as : (buffer : List ℕ) (at : ℕ) {a : ℕ} {d s t : List ℕ} → s ≡ t → Stands buffer at s a d → Stands buffer at t a d
 stands-as buffer at {a} {d} e stands = subst (λ (t : List ℕ). Stands buffer at t a d) e stands
+
+-- There is room for a text where there is room for it and those behind it.
+pub room-before : (n at : ℕ) (text : List ℕ) (texts : List (List ℕ)) → at + length (joined_behind text texts) ≤ n → at + length text ≤ n
+room-before n at text [] h = h
+room-before n at text (next ∷ texts) h = room-first n at text next (room-before n at (text ++ next) texts h)
+
+-- Texts that there is room for, behind one that stands.
+each-behind : (buffer : List ℕ) (at : ℕ) (text : List ℕ) (texts : List (List ℕ)) {d : List ℕ} {a : ℕ} → at + length (joined_behind text texts) ≤ length buffer
+    → Stands buffer at text a d → Stands buffer at (joined_behind text texts) (place_after_each d a texts) (put_each d a texts)
+each-behind buffer at text [] h stands = stands
+each-behind buffer at text (next ∷ texts) h stands =
+    each-behind buffer at (text ++ next) texts h (put-behind buffer at text next (room-before (length buffer) at (text ++ next) texts h) stands refl refl)
+
+-- Texts that there is room for.
+pub each : (buffer : List ℕ) (at : ℕ) (texts : List (List ℕ)) {d : List ℕ} {a : ℕ} → at + length (joined texts) ≤ length buffer
+    → a ≡ place_after_each buffer at texts → d ≡ put_each buffer at texts → Stands buffer at (joined texts) a d
+each buffer at [] h e f = (rw add-zero e, f)
+each buffer at (text ∷ texts) h e f =
+    rw (e, f) (each-behind buffer at text texts h (put buffer at text (room-before (length buffer) at text texts h) refl refl))
+
+-- Such texts, bracketed another way.
+pub each-as : (buffer : List ℕ) (at : ℕ) (texts : List (List ℕ)) {whole d : List ℕ} {a : ℕ} → joined texts ≡ whole → at + length whole ≤ length buffer
+    → a ≡ place_after_each buffer at texts → d ≡ put_each buffer at texts → Stands buffer at whole a d
+each-as buffer at texts w h e f = stands-as buffer at w (each buffer at texts (rw w h) e f)
+
+-- Texts behind one that stands.
+pub each-then : (buffer : List ℕ) (at : ℕ) (text : List ℕ) (texts : List (List ℕ)) {d₁ d₂ : List ℕ} {a₁ a₂ : ℕ} → at + length (text ++ joined texts) ≤ length buffer
+    → Stands buffer at text a₁ d₁ → a₂ ≡ place_after_each d₁ a₁ texts → d₂ ≡ put_each d₁ a₁ texts → Stands buffer at (text ++ joined texts) a₂ d₂
+each-then buffer at text texts {d₁} {d₂} {a₁} {a₂} h stands e f =
+    two buffer at text (joined texts) stands (each d₁ a₁ texts (room-second buffer at text (joined texts) h stands) e f)

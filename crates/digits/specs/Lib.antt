@@ -1,4 +1,5 @@
 -- Text and numbers as bytes.
 pub mod Ascii
 pub mod Digits
+pub mod Pieces
 pub mod Put

@@ -7,6 +7,10 @@ ghost use Rattle.digits.specs.Digits.{digits_to, decimal, hexadecimal};
 ghost use Rattle.digits.specs.Digits.{glyph as glyph_of};
 ghost use Rattle.digits.specs.Put.{put_at, place_after};
 
+pub use row::{Piece, put_pieces};
+
+mod row;
+
 // The sign of a digit.
 fn glyph(d: u64) -> u8
     requires { d < 16 }

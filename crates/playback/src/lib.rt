@@ -2,7 +2,6 @@
 #![tactic(auto)]
 
 mod bytes;
-mod lines;
 mod list;
 
 pub use bytes::{COMPACT_PRINT_SIZE, PRINT_SIZE, print, print_compact, print_into};

@@ -1,13 +1,15 @@
 // The lines of a list that was played, and the line of a record that is refused.
 
-ghost use Rattle.std.specs.Prelude.{◌≡◌, ◌+◌, ◌≤◌, leb, length};
-ghost use Rattle.std.proofs.lemmas.List.Edits.{sets};
+ghost use Rattle.std.specs.Prelude.{◌≡◌, ◌≤◌, leb, length, pos};
+ghost use Rattle.std.specs.Int.Signed.{lt_z};
 ghost use Rattle.buffers.specs.Filled.{filled};
-ghost use Rattle.playback.specs.Print.{event_lines, end_line, lines_of, lines_length, lines_into, refused_length, refused_into};
+ghost use Rattle.playback.specs.Print.{lines_of, lines_length, lines_into, refused_length, refused_into};
 ghost use Rattle.playback.specs.Size.{lines_room};
+ghost use Rattle.playback.specs.Text.{minus};
 
-use crate::lines::{is_below, put_event, put_last, put_line, size};
 use buffers::lesser;
+use digits::Piece::{Byte, Decimal, Text};
+use digits::put_pieces;
 use handlers::Machine;
 use record::MOST_EVENTS;
 
@@ -22,38 +24,11 @@ pub(crate) const LAST_LINE_SIZE: usize = 86;
 // Enough for the lines of any list of as many events as a record may have.
 pub const LINES_SIZE: usize = FIRST_LINE_SIZE + MOST_EVENTS * ANY_LINE_SIZE + LAST_LINE_SIZE;
 
-// Puts the lines of the events from a place on, and answers the place after them.
-fn put_events(out: &mut [u8], at: usize, heads: &[u32], answers: &[u32], refusals: &[u8]) -> usize
-    requires { (length heads.now ≤ length answers.now) × (length heads.now ≤ length refusals.now)
-        × (at + length (event_lines 0 heads.now answers.now refusals.now) ≤ length out.old) }
-    ensures value { result ≡ at + length (event_lines 0 heads.now answers.now refusals.now) }
-    ensures out_after { out.new ≡ sets out.old at (event_lines 0 heads.now answers.now refusals.now) }
+// The sign of a number: a minus below 0, else nothing.
+fn sign(z: i32) -> &'static [u8]
+    ensures { result.now ≡ minus (lt_z z (pos 0)) }
 {
-    let mut next = at;
-    for (i, head) in heads.iter().enumerate() {
-        next = put_event(
-            out,
-            next,
-            i as u64,
-            event::kind(*head) as u64,
-            answers[i] as u64,
-            refusals[i] as u64,
-        );
-    }
-    next
-}
-
-// Puts the last line of a machine.
-fn put_end(out: &mut [u8], at: usize, m: Machine) -> usize
-    requires { at + length (end_line m) ≤ length out.old }
-    ensures value { result ≡ at + length (end_line m) }
-    ensures out_after { out.new ≡ sets out.old at (end_line m) }
-{
-    let margin = m.margin().unwrap_or(0);
-    let level = m.controller.current_rank();
-    let below = is_below(margin);
-    let far = size(margin);
-    put_last(out, at, m.service.depth as u64, level.0 as u64, below, far)
+    if z < 0 { b"-" } else { b"" }
 }
 
 // Puts the lines of a list that was played at the start, where there is room for them.
@@ -70,16 +45,49 @@ pub(crate) fn put_lines(
     ensures value { result ≡ length (lines_of sources heads.now answers.now refusals.now m) }
     ensures out_after { out.new ≡ filled (lines_of sources heads.now answers.now refusals.now m) out.old }
 {
-    let a = put_line(
+    let mut at = put_pieces(
         out,
         0,
-        b"sources ",
-        sources as u64,
-        b" events ",
-        heads.len() as u64,
+        &[
+            Text(b"sources "),
+            Decimal(sources as u64),
+            Text(b" events "),
+            Decimal(heads.len() as u64),
+            Byte(b'\n'),
+        ],
     );
-    let b = put_events(out, a, heads, answers, refusals);
-    put_end(out, b, m)
+    for (i, head) in heads.iter().enumerate() {
+        at = put_pieces(
+            out,
+            at,
+            &[
+                Decimal(i as u64),
+                Byte(b' '),
+                Decimal(event::kind(*head) as u64),
+                Byte(b' '),
+                Decimal(answers[i] as u64),
+                Byte(b' '),
+                Decimal(refusals[i] as u64),
+                Byte(b'\n'),
+            ],
+        );
+    }
+    let margin = m.margin().unwrap_or(0);
+    let level = m.controller.current_rank();
+    put_pieces(
+        out,
+        at,
+        &[
+            Text(b"end open "),
+            Decimal(m.service.depth as u64),
+            Text(b" level "),
+            Decimal(level.0 as u64),
+            Text(b" margin "),
+            Text(sign(margin)),
+            Decimal(margin.unsigned_abs() as u64),
+            Byte(b'\n'),
+        ],
+    )
 }
 
 // Whether so many bytes have room for the lines of any k events.
@@ -120,5 +128,15 @@ pub fn print_refused(refusal: u8, place: usize, out: &mut [u8]) -> usize
     if out.len() < FIRST_LINE_SIZE {
         return 0;
     }
-    put_line(out, 0, b"refused ", refusal as u64, b" at ", place as u64)
+    put_pieces(
+        out,
+        0,
+        &[
+            Text(b"refused "),
+            Decimal(refusal as u64),
+            Text(b" at "),
+            Decimal(place as u64),
+            Byte(b'\n'),
+        ],
+    )
 }

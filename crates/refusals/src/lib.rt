@@ -11,24 +11,19 @@ use digits::put_text;
 // No refusal has more bytes of words.
 pub const WORDS_SIZE: usize = 80;
 
-// Puts the line that follows the first n line feeds of a text, as digits::put_text does.
-fn put_line(buffer: &mut [u8], at: usize, text: &[u8], n: u8) -> usize
-    ensures value { result ≡ place_after buffer.old at (line_at text.now n) }
-    ensures buffer_after { buffer.new ≡ put_at buffer.old at (line_at text.now n) }
+// The line that follows the first n line feeds of a text.
+fn line(text: &[u8], n: u8) -> &[u8]
+    ensures { result.now ≡ line_at text.now n }
 {
-    let line = text.split(|b| *b == b'\n').nth(n as usize).unwrap_or(&[]);
-    put_text(buffer, at, line)
+    text.split(|b| *b == b'\n').nth(n as usize).unwrap_or(&[])
 }
 
-// Puts the words of a refusal, as digits::put_text does.
-pub fn put_words(buffer: &mut [u8], at: usize, refusal: u8) -> usize
-    ensures value { result ≡ place_after buffer.old at (words_of refusal) }
-    ensures buffer_after { buffer.new ≡ put_at buffer.old at (words_of refusal) }
+// The words of a refusal.
+pub fn words_of(refusal: u8) -> &'static [u8]
+    ensures { result.now ≡ words_of refusal }
 {
     // line k has the words of refusal k; line 0 is empty
-    put_line(
-        buffer,
-        at,
+    line(
         b"\n\
           fewer than 8 bytes\n\
           N is not 2 to 255\n\
@@ -59,4 +54,12 @@ pub fn put_words(buffer: &mut [u8], at: usize, refusal: u8) -> usize
           kind 7 is no longer written: chain by look and commit, 12 and 13\n",
         refusal,
     )
+}
+
+// Puts the words of a refusal, as digits::put_text does.
+pub fn put_words(buffer: &mut [u8], at: usize, refusal: u8) -> usize
+    ensures value { result ≡ place_after buffer.old at (words_of refusal) }
+    ensures buffer_after { buffer.new ≡ put_at buffer.old at (words_of refusal) }
+{
+    put_text(buffer, at, words_of(refusal))
 }

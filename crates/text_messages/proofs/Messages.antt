@@ -2,8 +2,8 @@
 use Prim.Native.Nat.{ℕ, ◌+◌, ◌≤◌}
 use native.Mathlib.Omega.{arith}
 use mathlib.Core.Bool.{Bool, true, false, cond}
-use mathlib.Core.Path.{◌≡◌, sym, ◌∙◌}
-use mathlib.Core.List.{List, ◌++◌}
+use mathlib.Core.Path.{◌≡◌, sym, ap, ◌∙◌}
+use mathlib.Core.List.{List, [], ◌++◌, append-nil}
 use lib.ListN.{length, drop, length-append}
 use lib.Seq.{length-take-le}
 use lib.Dec.{eqb}
@@ -15,7 +15,7 @@ use Rattle.digits.proofs.Digits.{digits-most}
 use Rattle.digits.proofs.Pieces.{Stands}
 use Rattle.refusals.specs.Words.{words_of, words_size}
 use Rattle.refusals.proofs.Words.{words-most}
-use Rattle.text_messages.specs.Messages.{saying, why_words, at_line, too_long, refused, refused_in, message_size}
+use Rattle.text_messages.specs.Messages.{saying, why_words, at_line, too_long, refused_at, refused_with, refused, refused_in, message_size}
 
 number-length : (n : ℕ) → length (decimal n) ≤ 20
 number-length n = digits-most 10 1 20 n
@@ -49,6 +49,10 @@ pub refused-in-fits : (refusal place line n : ℕ) → message_size ≤ n → 0 
 unfolding ascii
 refused-in-fits refusal place line n h =
     simp (length-append) (omega (arith, words-most refusal, number-length refusal, number-length place, number-length line))
+
+-- Where nothing is said of the line.
+pub nothing-said : (refusal place : ℕ) → refused_with refusal place [] ≡ refused refusal place
+nothing-said refusal place = ap (λ (t : List ℕ). t ++ saying (words_of refusal)) (append-nil (refused_at refusal place))
 
 -- A message that stands at the start fills it.
 pub made : (out message : List ℕ) {d : List ℕ} {r : ℕ} → 0 + length message ≤ length out → Stands out 0 message r d

@@ -3,8 +3,6 @@ use Rattle.std.specs.Prelude.{ℕ, ◌+◌, Bool, cond, ◌||◌, List, ◌++◌
 use Rattle.digits.specs.Ascii.{ascii}
 use Rattle.digits.specs.Digits.{decimal, within}
 use Rattle.refusals.specs.Words.{words_of, words_size}
-use Rattle.text_messages.specs.declared.Said.{Said}
-use Rattle.text_messages.specs.declared.Said.TheVariants as said
 use Rattle.text_reader.specs.Reading.{why_not_sources, why_not_event, why_too_many, why_short_head}
 
 -- Behind a place: a colon, the words, and the end of the line.
@@ -18,11 +16,6 @@ why_words why =
     (cond (eqb why why_not_event) (ascii "not HEAD:VALUE in hexadecimal")
     (cond (eqb why why_short_head) (ascii "the head has fewer than eight digits")
     (words_of 3)))
-
--- What is said behind a place: that, or the words of a refusal.
-abbrev pub said_words : Said → List ℕ
-said_words (said.Why why) = why_words why
-said_words (said.Refusal refusal) = words_of refusal
 
 -- The numbers of a bad line.
 abbrev pub is_of_line : ℕ → Bool
@@ -47,6 +40,10 @@ refused_at refusal place = ascii "refused " ++ decimal refusal ++ ascii " at " +
 -- A record that is refused: `refused 1 at 0: fewer than 8 bytes`.
 abbrev pub refused : ℕ → ℕ → List ℕ
 refused refusal place = refused_at refusal place ++ saying (words_of refusal)
+
+-- The same with what is said of the line between the two.
+abbrev pub refused_with : ℕ → ℕ → List ℕ → List ℕ
+refused_with refusal place line = refused_at refusal place ++ line ++ saying (words_of refusal)
 
 -- The line of the text that a refusal is about: ` (line 3)`.
 abbrev pub in_line : ℕ → List ℕ

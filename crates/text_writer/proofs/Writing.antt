@@ -10,11 +10,11 @@ use lib.Seq.{length-sets, take_at, length-take-le}
 use Rattle.buffers.proofs.Stores.{sets-filled}
 use Rattle.buffers.specs.Filled.{filled}
 use Rattle.digits.specs.Digits.{decimal, hexadecimal}
-use Rattle.digits.specs.Put.{put_at, place_after}
+use Rattle.digits.specs.Pieces.{put_each, place_after_each, joined}
 use Rattle.digits.proofs.Digits.{digits-most}
 use Rattle.digits.proofs.Meaning.{digits-length}
 use Rattle.digits.proofs.Signs.{digits-some}
-use Rattle.digits.proofs.Pieces.{Stands, two, two-pieces, four}
+use Rattle.digits.proofs.Pieces.{Stands, two, stands-as, each, each-as}
 use borrow.Author.Tests.{eq-eqb}
 use Rattle.record.specs.Record.{board, most_events}
 use Rattle.record.specs.Questions.{board_verdict}
@@ -57,22 +57,12 @@ pub listing-length : (sources : ℕ) (heads values : List ℕ) → sources < 100
 listing-length sources heads values small =
     rw (length-append (ended (sources_text sources)) (events_text heads values)) (omega (arith, sources-length sources small, events-length heads values))
 
--- An event's line, put piece by piece.
-abbrev pieces : ℕ → ℕ → List ℕ
-pieces head value = hexadecimal 8 head ++ (colon ∷ []) ++ hexadecimal 1 value ++ (line_feed ∷ [])
+-- The pieces of an event's line.
+abbrev pub line_texts : ℕ → ℕ → List (List ℕ)
+line_texts head value = hexadecimal 8 head ∷ (colon ∷ []) ∷ hexadecimal 1 value ∷ (line_feed ∷ []) ∷ []
 
-line-pieces : (head value : ℕ) → pieces head value ≡ ended (event_text head value)
-line-pieces head value = ap (λ (l : List ℕ). l ++ line_feed ∷ []) (append_assoc (hexadecimal 8 head) (colon ∷ []) (hexadecimal 1 value))
-
-pub line-put : (text : List ℕ) (at head value : ℕ) {a b c r : ℕ} {d₁ d₂ d₃ d₄ : List ℕ} → at + 18 ≤ length text
-    → a ≡ place_after text at (hexadecimal 8 head) → d₁ ≡ put_at text at (hexadecimal 8 head)
-    → b ≡ place_after d₁ a (colon ∷ []) → d₂ ≡ put_at d₁ a (colon ∷ [])
-    → c ≡ place_after d₂ b (hexadecimal 1 value) → d₃ ≡ put_at d₂ b (hexadecimal 1 value)
-    → r ≡ place_after d₃ c (line_feed ∷ []) → d₄ ≡ put_at d₃ c (line_feed ∷ [])
-    → Stands text at (ended (event_text head value)) r d₄
-line-put text at head value h ea e₁ eb e₂ ec e₃ er e₄ =
-    let room : at + length (pieces head value) ≤ length text = rw (line-pieces head value) (omega (arith, line-length head value)) in
-    rw (← line-pieces head value) (four text at (hexadecimal 8 head) (colon ∷ []) (hexadecimal 1 value) (line_feed ∷ []) room ea e₁ eb e₂ ec e₃ er e₄)
+line-joined : (head value : ℕ) → joined (line_texts head value) ≡ ended (event_text head value)
+line-joined head value = ap (λ (l : List ℕ). l ++ line_feed ∷ []) (append_assoc (hexadecimal 8 head) (colon ∷ []) (hexadecimal 1 value))
 
 -- One more event's line.
 events-snoc : (i : ℕ) (heads values : List ℕ) → i < length heads → i < length values
@@ -87,46 +77,40 @@ events-snoc (suc i) (x ∷ heads) (y ∷ values) h v =
     ap (λ (l : List ℕ). ended (event_text x y) ++ l) (events-snoc i heads values h' v')
     ∙ sym (append_assoc (ended (event_text x y)) (events_text (take i heads) (take i values)) (ended (event_text (get_or heads i 0) (get_or values i 0))))
 
--- The loop over the events: the room that is left, and a turn.
-module _ (text : List ℕ) (from : ℕ) (heads values : List ℕ) (same : length heads ≡ length values) (i : ℕ) {at : ℕ} {d : List ℕ}
-    (e : Stands text from (events_text (take i heads) (take i values)) at d) where
-  pub events-room : i ≤ length heads → at ≤ from + 18 * i
-  events-room h = omega (arith, e.0, events-length (take i heads) (take i values), length-take-le i heads h)
+-- The pieces of the first line.
+abbrev pub first_texts : ℕ → List (List ℕ)
+first_texts sources = decimal sources ∷ (line_feed ∷ []) ∷ []
 
-  pub events-turn : {at' : ℕ} {d' : List ℕ} → i < length heads → Stands d at (ended (event_text (get_or heads i 0) (get_or values i 0))) at' d'
-      → Stands text from (events_text (take (i + 1) heads) (take (i + 1) values)) at' d'
-  events-turn h e' =
-      let v : i < length values = omega arith in
-      rw (add-one, events-snoc i heads values h v)
-      (two text from (events_text (take i heads) (take i values)) (ended (event_text (get_or heads i 0) (get_or values i 0))) e e')
-
--- The first line, and the events after it.
-module _ (text : List ℕ) (sources : ℕ) (heads values : List ℕ) (small : sources < 1000) (long : 4 + 18 * length heads ≤ length text)
-    {a b : ℕ} {d₁ d₂ : List ℕ} (ea : a ≡ place_after text 0 (decimal sources)) (e₁ : d₁ ≡ put_at text 0 (decimal sources))
-    (eb : b ≡ place_after d₁ a (line_feed ∷ [])) (e₂ : d₂ ≡ put_at d₁ a (line_feed ∷ [])) where
+-- The first line, and the events after it, line by line.
+module _ (text : List ℕ) (sources : ℕ) (heads values : List ℕ) (small : sources < 1000) (long : 4 + 18 * length heads ≤ length text) where
   abbrev first : List ℕ
   first = ended (sources_text sources)
 
-  abbrev rest : List ℕ
-  rest = events_text heads values
-
-  put_first : Stands text 0 first b d₂
-  put_first =
+  pub none-listed : {at : ℕ} {d : List ℕ} → at ≡ place_after_each text 0 (first_texts sources) → d ≡ put_each text 0 (first_texts sources)
+      → Stands text 0 (listing_of sources [] []) at d
+  unfolding events_text
+  none-listed e f =
       let room : 0 + length first ≤ length text = omega (arith, sources-length sources small) in
-      two-pieces text 0 (decimal sources) (line_feed ∷ []) room ea e₁ eb e₂
+      stands-as text 0 (sym (append-nil first)) (each text 0 (first_texts sources) room e f)
 
-  pub first-put : b + 18 * length heads ≤ length d₂
-  first-put =
-      let l : length d₂ ≡ length text = rw put_first.1 (length-sets text 0 first) in
-      omega (arith, put_first.0, sources-length sources small)
+  pub one-listed : (i : ℕ) {at at' : ℕ} {d d' : List ℕ} → i < length heads → i < length values → Stands text 0 (listing_of sources (take i heads) (take i values)) at d
+      → at' ≡ place_after_each d at (line_texts (get_or heads i 0) (get_or values i 0)) → d' ≡ put_each d at (line_texts (get_or heads i 0) (get_or values i 0))
+      → Stands text 0 (listing_of sources (take (i + 1) heads) (take (i + 1) values)) at' d'
+  one-listed i {at} {at'} {d} {d'} h v e ea ed =
+      let line = ended (event_text (get_or heads i 0) (get_or values i 0)) in
+      let few : i ≤ length heads = omega arith in
+      let most : length (listing_of sources (take i heads) (take i values)) ≤ 4 + 18 * length (take i heads) = listing-length sources (take i heads) (take i values) small in
+      let same : length d ≡ length text = rw e.1 (length-sets text 0 (listing_of sources (take i heads) (take i values))) in
+      let room : at + length line ≤ length d = omega (arith, e.0, length-take-le i heads few, line-length (get_or heads i 0) (get_or values i 0)) in
+      rw (add-one, events-snoc i heads values h v, ← append_assoc first (events_text (take i heads) (take i values)) line)
+      (two text 0 (listing_of sources (take i heads) (take i values)) line e (each-as d at (line_texts (get_or heads i 0) (get_or values i 0)) (line-joined _ _) room ea ed))
 
-  pub listing-put : {r : ℕ} {d₃ : List ℕ} → Stands d₂ b rest r d₃
-      → (r ≡ length (listing_of sources heads values)) × ((d₃ ≡ filled (listing_of sources heads values) text) × (r ≤ length d₃))
-  listing-put {r} {d₃} e =
-      let fits : length (first ++ rest) ≤ length text = rw (length-append first rest) (omega (arith, sources-length sources small, events-length heads values)) in
-      let whole = two text 0 first rest put_first e in
-      let same : length d₃ ≡ length text = rw whole.1 (length-sets text 0 (first ++ rest)) in
-      (omega (arith, whole.0), (whole.1 ∙ sets-filled text (first ++ rest) fits, omega (arith, whole.0)))
+  pub all-listed : {at : ℕ} {d : List ℕ} → Stands text 0 (listing_of sources heads values) at d
+      → (at ≡ length (listing_of sources heads values)) × ((d ≡ filled (listing_of sources heads values) text) × (at ≤ length d))
+  all-listed {at} {d} e =
+      let fits : length (listing_of sources heads values) ≤ length text = omega (arith, listing-length sources heads values small) in
+      let same : length d ≡ length text = rw e.1 (length-sets text 0 (listing_of sources heads values)) in
+      (omega (arith, e.0), (e.1 ∙ sets-filled text (listing_of sources heads values) fits, omega (arith, e.0)))
 
 -- What was read of a record is within bounds.
 pub parts-fit : {bytes : List ℕ} {head_places value_places n s : ℕ} {hs vs : List ℕ} → Parts board bytes head_places value_places n s hs vs → (n ≤ most_events) × (s < 1000)

@@ -1,17 +1,14 @@
-use mathlib.Core.Path.{◌≡◌, refl, ap, ◌∙◌}
+use mathlib.Core.Path.{refl, ap, ◌∙◌}
 use Rattle.std.proofs.Common.{rules, tests}
 use Rattle.std.proofs.lemmas.Iterator.Consumers.{nth_from_yields_List}
 use Rattle.std.proofs.lemmas.Iterator.Splits.{YieldsList-from_slice_split}
 use Rattle.std.specs.Option.{unwrap_or}
 use mathlib.Core.List.{[]}
-use Rattle.refusals.specs.Lines.{line_at}
 use Rattle.refusals.proofs.Lines.{part-line, behind}
-use Rattle.refusals.proofs.put_line.Goals as goal
+use Rattle.refusals.proofs.line.Goals as goal
 
 pub returns : goal.returns
 returns c =
     let yields = YieldsList-from_slice_split _ _ c.args.text.now c.split.ensures.rest c.split.ensures.done c.split.ensures.closure (λ x r q k. search (rules, tests)) in
     let part = nth_from_yields_List c.nth.result c.nth.new.self c.args.n c.nth.ensures.ran yields in
-    let line : c.unwrap_or-line.result.now ≡ line_at c.args.text.now c.args.n
-    = ap (λ r. r.now) c.unwrap_or-line.ensures ∙ behind c.nth.result _ refl ∙ ap (λ r. unwrap_or r []) part ∙ part-line c.args.text.now c.args.n in
-    record { value = rw (← line) c.put_text.ensures.value; buffer_after = rw (← line) c.put_text.ensures.buffer_after }
+    ap (λ r. r.now) c.unwrap_or.ensures ∙ behind c.nth.result _ refl ∙ ap (λ r. unwrap_or r []) part ∙ part-line c.args.text.now c.args.n
