@@ -1,5 +1,7 @@
 use mathlib.Core.Path.{◌≡◌, refl, sym, ap, ◌∙◌}
-use Prim.Native.Nat.{ℕ}
+use Prim.Native.Nat.{ℕ, ◌≤◌, ◌<◌}
+use mathlib.Core.Bool.{false}
+use lib.Dec.{eqb}
 use native.Mathlib.Omega.{arith}
 use borrow.Author.Tests.{ne_eqb, eqb-false, ltb-false}
 use lib.ListN.{length}
@@ -7,11 +9,10 @@ use Rattle.questions.specs.Numbers.{number_in}
 use Rattle.event.specs.declared.kinds.Kind.{Kind}
 use Rattle.event.specs.Kinds.{number_of_kind}
 use Rattle.event.specs.Event.{kinds, kind_of, address_of, shape_of}
-use Rattle.event.proofs.Laws.{kind-known}
 use Rattle.questions.specs.Numbers.{number_of}
 use Rattle.questions.proofs.Numbers.{never_0}
 use Rattle.handlers.specs.declared.Machine.{Machine}
-use Rattle.handlers.specs.Service.{event_of, sound_step_of}
+use Rattle.handlers.specs.Service.{refused, event_of, sound_step_of}
 use Rattle.handlers.proofs.Machine.sound_step.Goals as goal
 
 -- Where 6 and 7 are answered yes, the event of the kind that the head's number names.
@@ -28,11 +29,18 @@ returns-in-Err c =
     let no = eqb-false (number_of c.in-Err.refusal) 0 (never_0 c.in-Err.refusal) in
     rw (← c.in-Err.ensures, ne_eqb _ _ no) c.refuse_for.ensures
 
+-- A number that is of no kind is none of those that the rule asks for.
+none-of : (m : Machine) (k a value : ℕ) → 14 ≤ k → event_of m k a value ≡ refused m 6
+unfolding event_of
+none-of m k a value big =
+    let no : (i : ℕ) → i < 14 → eqb k i ≡ false = λ i small. ne_eqb k i (λ e. omega (arith, e, big, small)) in
+    rw (no 0 (omega arith), no 1 (omega arith), no 2 (omega arith), no 3 (omega arith), no 4 (omega arith), no 5 (omega arith), no 6 (omega arith), no 7 (omega arith), no 8 (omega arith), no 9 (omega arith), no 10 (omega arith), no 11 (omega arith), no 12 (omega arith), no 13 (omega arith)) refl
+
 pub returns-in_default-try_from : goal.returns-in_default-try_from
-unfolding number_in
+unfolding number_in sound_step_of
 returns-in_default-try_from c =
-    let known = kind-known c.args.head c.args.value (sym c.in_default.ensures) in
-    absurd (omega (arith, known, c.kind.ensures, ltb-false c.kind.result (length kinds) c.in_default-try_from.ensures.1))
+    let big : 14 ≤ c.kind.result = ltb-false c.kind.result (length kinds) c.in_default-try_from.ensures.1 in
+    rw (← c.in_default.ensures, ← c.kind.ensures, none-of c.args.self c.kind.result _ c.args.value big) c.refuse_for-in_default-try_from.ensures
 
 pub returns-in-Sample : goal.returns-in-Sample
 unfolding event_of number_in
