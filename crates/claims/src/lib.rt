@@ -18,6 +18,7 @@ pub use machines::Plays;
 pub struct Played {
     pub machine: Machine,
     pub events: usize,
+    // A number, as in an outcome.
     pub refusal: u8,
 }
 

@@ -34,6 +34,7 @@ impl Machine {
     fn lift(self, out: pic::Outcome) -> Outcome
         ensures { result ≡ lifted self out }
     {
+        // Wrapped again by hand, here, in count and for a checked machine: a function over a closure has a precondition, and no published call may have one.
         Outcome {
             machine: self.with_controller(out.machine),
             answer: out.answer,

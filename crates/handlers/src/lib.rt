@@ -29,6 +29,7 @@ impl Answering for Machine {}
 #[derive(Clone, Copy)]
 pub struct Answered {
     pub answer: u32,
+    // A number, as in an outcome.
     pub refusal: u8,
 }
 

@@ -44,6 +44,7 @@ fn print(record: &[u8], out: &mut [u8; LINES_SIZE]) -> usize
 }
 
 // Writes the print of a record.
+// One for each size: a bound over a closure cannot name a const parameter.
 fn show(rt: &HostRuntime, record: &[u8]) {
     let mut out: [u8; LINES_SIZE] = [0; LINES_SIZE];
     let length = print(record, &mut out);

@@ -102,6 +102,7 @@ fn has_room(k: usize, space: usize) -> bool
 
 // Prints the lines of a list that was played into a buffer of any length, for as many events as heads, answers and refusals all have: the lines fill its first
 // bytes, and the answer is how many. With less room than the lines of any so many events may need it stays as it was, and the answer is 0.
+// No Option, here and in the prints above it: 0 is what C is promised where there is no room.
 pub fn print_lines(
     sources: u32,
     heads: &[u32],
