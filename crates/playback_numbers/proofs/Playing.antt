@@ -4,12 +4,7 @@ use native.Mathlib.Omega.{arith}
 use mathlib.Core.Path.{◌≡◌, refl}
 use mathlib.Core.List.{List}
 use lib.ListN.{length, take}
-use lib.IntN.{ℤ}
 use Rattle.buffers.specs.Filled.{filled}
-use Rattle.pic_source.specs.declared.Rank.{Rank}
-use Rattle.pic.specs.Calls.{current_rank}
-use Rattle.handlers.specs.declared.Machine.{Machine}
-use Rattle.handlers.specs.Calls.{margin_answer}
 use Rattle.handlers.specs.Machines.{power_on_of}
 use Rattle.claims.specs.declared.Played.{Played}
 use Rattle.claims.specs.Play.{answers_of, refusals_of, events_played, played_of}
@@ -18,11 +13,6 @@ use Rattle.record.specs.Record.{board}
 use Rattle.playback.proofs.Reading.{WasRead, WasRefused}
 use Rattle.playback_numbers.specs.Numbers.{Numbers}
 use Rattle.playback_numbers.specs.Numbers.{accepted_with, refused_with, numbers_of, answers_left, refusals_left}
-
--- The numbers of a machine, as the queries answered them.
-pub accepted-is : (n count : ℕ) (m : Machine) {level : Rank} {z : ℤ} → level ≡ current_rank m.controller → z ≡ (margin_answer m).margin
-    → ◌≡◌ {A = Numbers} (record { refusal = 0; place = 0; sources = n; events = count; depth = m.service.depth; level = level.0; margin = z }) (accepted_with n count m)
-accepted-is n count m el ez = rw (ez, el)
 
 -- The result, and what stands in the two arrays.
 abbrev pub Left : List ℕ → List ℕ → List ℕ → Numbers → List ℕ → List ℕ → Type 0

@@ -3,13 +3,11 @@ use Prim.Native.Nat.{ℕ, ◌≤◌}
 use native.Mathlib.Omega.{arith}
 use mathlib.Core.Path.{◌≡◌}
 use mathlib.Core.List.{List}
-use borrow.Author.Tests.{eqb-false}
 use lib.ListN.{length, take}
 use lib.Seq.{length-take-le}
 use Rattle.record.specs.Record.{board, most_events, count_of}
 use Rattle.record.specs.Questions.{arrays_hold, read_verdict}
-use Rattle.record.proofs.Places.{same-verdict, place-few}
-use Rattle.playback.proofs.Reading.{WasRefused}
+use Rattle.record.proofs.Places.{same-verdict}
 use Rattle.playback_numbers.specs.Numbers.{verdict_of, ServesFor}
 
 -- A part holds what the places hold that it serves for.
@@ -18,10 +16,6 @@ same-hold k p q a b s t h = rw (s.1 k h, t.1 k h)
 
 pub serves-part : (part n : ℕ) (l : List ℕ) → length l ≡ most_events → ServesFor part n → ServesFor (length (take part l)) n
 serves-part part n l e s = let inside : part ≤ length l = omega (arith, e, s.0) in rw (length-take-le part l inside) s
-
--- So it is for a record that was refused.
-pub refused-few : {bytes : List ℕ} {a b number at : ℕ} → WasRefused board bytes a b number at → at ≤ most_events
-refused-few {bytes} {a} {b} f = omega (arith, f.place, place-few board bytes a b (eqb-false _ _ f.no))
 
 -- Parts that serve for the lent arrays get their verdict.
 pub served : (bytes heads values : List ℕ) (a b : ℕ) → ServesFor (length heads) a → ServesFor (length values) b
