@@ -25,6 +25,7 @@ fn read_all<R: Read>(file: &mut R, buffer: &mut [u8]) -> io::Result<usize>
     ensures end { IfOk result (λ n. n < length buffer.new → IsAtEnd (R.remaining file.new)) }
 {
     let mut at: usize = 0;
+    // It goes on by as many bytes as a read gave.
     while at < buffer.len() {
         let some = file.read(&mut buffer[at..])?;
         if some == 0 {

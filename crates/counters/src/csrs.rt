@@ -35,6 +35,7 @@ pub fn csr_at(address: u32) -> Option<Csr>
 }
 
 // Whether there is such a CSR.
+// Of an Option, here and below: a bare CSR would be a narrower type than these calls have taken.
 pub fn is_csr(csr: Option<Csr>) -> bool
     ensures { result ≡ is_csr csr }
 {

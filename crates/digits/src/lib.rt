@@ -12,6 +12,7 @@ pub use row::{Piece, put_pieces};
 mod row;
 
 // The sign of a digit.
+// Two sums, on the path of every print.
 fn glyph(d: u64) -> u8
     requires { d < 16 }
     ensures { result ≡ glyph_of d }

@@ -14,6 +14,7 @@ use questions::Refusal;
 struct Uses(bool, bool);
 
 // One row for each kind, in the order of their numbers.
+// A table beside the enum, as the rule has one: a match would say fourteen times what its rows say.
 const KINDS: [Uses; 14] = [
     Uses(true, true), // 0 sample
     Uses(true, false), // 1 load

@@ -25,10 +25,12 @@ fn serves_in(h: Handler, look: Look) -> bool
     ensures { result ≡ serves_in h look }
 {
     let w = look.winner;
+    // By the numbers, as the rule compares them.
     (w.rank.0 == h.rank.0) & look.above
 }
 
 // The source that a chain in the handler h would serve by this look, or 0.
+// No Option: a look answers that 0.
 fn next_in(h: Handler, look: Look) -> u32
     ensures { result ≡ next_in h look }
 {

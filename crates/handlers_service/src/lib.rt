@@ -9,6 +9,7 @@ use handlers_stack::Handler;
 use outcome::Answering;
 
 // The mask, 0 interrupts off, 1 on, and the handlers. Places of the stack from depth up mean nothing.
+// Numbers for flags and for the depth: question 8 is asked of any such value, sound or not.
 #[derive(Clone, Copy)]
 pub struct Service {
     pub mask: u8,

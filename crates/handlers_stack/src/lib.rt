@@ -36,6 +36,8 @@ pub fn no_handler() -> Handler
 }
 
 // One handler of n sources: top where it is the uppermost, lowest where it is that, below the rank of the handler under it.
+// Whether it is the lowest, and the rank below it, are two parameters of the rule. Ranks are compared by their numbers, as the rule does: the check did not
+// close it by the derived order.
 fn handler_sound(n: u8, top: bool, lowest: bool, below: Rank, h: Handler) -> bool
     ensures { result ≡ handler_sound n top lowest below h }
 {

@@ -11,6 +11,7 @@ use questions::Refusal;
 pub struct Outcome<M> {
     pub machine: M,
     pub answer: u32,
+    // A number: 01 has an event hand back machine, answer and number, and lists store the numbers as they are.
     pub refusal: u8,
 }
 

@@ -10,6 +10,7 @@ use pic_source::Rank;
 use pic_source::ranks::{to_field, to_rank};
 
 // The larger of two ranks.
+// By the numbers, here and in a look, as the rule compares them: the check did not close it by the derived order.
 fn higher(a: Rank, b: Rank) -> Rank
     ensures { result ≡ higher_of a b }
 {

@@ -11,6 +11,7 @@ use questions::Refusal;
 use source_count::is_count;
 
 // Whether the values of a source are sound.
+// The six numbers of a source, which stand in arrays of their own.
 #[tactic(auto, unfolding(crate::specs::Sound::source_sound))]
 fn source_sound(field: Field, enable: u8, trigger: u8, polarity: u8, line: u8, latch: u8) -> bool
     ensures { result ≡ source_sound field enable trigger polarity line latch }

@@ -12,6 +12,7 @@ pub fn bit(v: u32, y: u8) -> u32
 }
 
 // The lowest set bit of a word, 32 where it has none.
+// No Option: 32 is what the published call answers.
 pub fn lowest_bit(w: u32) -> u32
     ensures { result ≡ lowest_bit w }
 {

@@ -9,6 +9,7 @@ ghost use Rattle.pic_comparator.specs.Comparator.{no_winner, better_of};
 use pic_source::Rank;
 
 // A source number and its rank; 0 and rank 0 where there is none.
+// No Option: by 01 the winner is number 0 of rank 0 where there is none, and a capture claims that number.
 #[derive(Clone, Copy, Debug, PartialEq, Eq)]
 pub struct Winner {
     pub source: u8,

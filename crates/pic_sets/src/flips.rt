@@ -8,6 +8,7 @@ use pic_source::ranks::to_rank;
 use pic_source::{Field, Rank};
 
 // Where it is asked for, source s enters the set of a rank, or leaves it. A rank above 15 has no set.
+// Whether, beside which rank: the rule of the published update has both.
 fn flip(sets: &mut [[u32; 8]; 16], on: bool, rank: Rank, s: u8)
     ensures { sets.new ≡ flipped_if on sets.old rank.0 s }
 {
@@ -30,6 +31,7 @@ pub fn flip_word(sets: &mut [[u32; 8]; 16], field: &[u8; 256], priord: u8, x: u8
     ensures { sets.new ≡ flipped_word sets.old (rank_at priord field.now) (x % 8) changed }
 {
     let mut left = changed;
+    // Bits are taken off the word; no index is counted.
     while left != 0 {
         let y = lowest_bit(left);
         let s = 32 * (x % 8) + (y as u8);

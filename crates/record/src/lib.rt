@@ -92,6 +92,7 @@ fn walk_bytes(bytes: &[u8], n: usize) -> Result<(), Refused>
     ensures { verdict_in result ≡ walk shape_of (words_from bytes.now 2 n) (words_from bytes.now (2 + n) n) }
 {
     let mut i: usize = 0;
+    // A loop that yields by break, as 01 names it.
     loop {
         if n <= i {
             break Ok(());

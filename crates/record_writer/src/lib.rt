@@ -65,6 +65,7 @@ fn walk_arrays(heads: &[u32], values: &[u32]) -> Result<(), Refused>
     ensures { verdict_in result ≡ walk write_shape_of heads.now values.now }
 {
     let mut i: usize = 0;
+    // A loop that yields by break, as 01 names it.
     loop {
         if heads.len() <= i {
             break Ok(());

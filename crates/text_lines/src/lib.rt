@@ -23,6 +23,7 @@ fn number_in(text: &[u8], base: u32, most: usize) -> Option<u32>
 }
 
 // The index of the first such mark, or the length.
+// No Option: the length is what the published call answers.
 pub fn find(text: &[u8], mark: u8) -> usize
     ensures value { result ≡ length (before mark text.now) }
     ensures upper_bound { result ≤ length text.now }

@@ -15,6 +15,7 @@ use refusals::{WORDS_SIZE, words_of};
 pub const MESSAGE_SIZE: usize = 8 + 20 + 4 + 20 + 7 + 20 + 1 + 2 + WORDS_SIZE + 1;
 
 // Why a line is bad, by the reader's number.
+// Of any number, as the published call is.
 #[tactic(auto, unfolding(digits::specs::Ascii::ascii))]
 fn why_words(why: u8) -> &'static [u8]
     ensures { result.now ≡ why_words why }

@@ -114,6 +114,7 @@ fn next_row(text: &[u8], line: usize) -> Result<Row<'_>, usize>
 {
     let mut rest = text;
     let mut number = line;
+    // From line to line by what is left of the text; the number is what the caller needs.
     while !rest.is_empty() {
         let (line, after) = split(rest, b'\n');
         let said = &line[..said_in(line)];
@@ -149,6 +150,7 @@ fn read_events(
     let mut rest = text;
     let mut next = line;
     let mut n = 0;
+    // From row to row by what is left of the text; how many there are is the answer.
     while let Ok(row) = next_row(rest, next) {
         let line = row.number;
         if MOST_EVENTS <= n {
@@ -230,6 +232,7 @@ pub fn to_record(text: &[u8], bytes: &mut [u8; RECORD_SIZE]) -> Result<usize, No
     let mut numbers: [usize; MOST_EVENTS] = [0; MOST_EVENTS];
     let listing = read_text(text, &mut heads, &mut values, &mut numbers)?;
     let n = listing.events;
+    // Matched, not mapped: that the place has a line is known where the writing was refused.
     match record_writer::write(listing.sources, &heads[..n], &values[..n], bytes) {
         Ok(length) => Ok(length),
         Err(refused) => Err(NotRecord::Refused {
