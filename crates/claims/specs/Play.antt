@@ -6,8 +6,9 @@ use Rattle.handlers.specs.declared.Machine.{Machine}
 use Rattle.handlers.specs.Outcome.{Outcome}
 use Rattle.handlers.specs.Machines.{power_on_of}
 use Rattle.handlers.specs.Calls.{step_of}
+use Rattle.outcome.specs.Outcomes.{answered_by}
 use Rattle.claims.specs.declared.Played.{Played}
-use Rattle.handlers.specs.declared.Answered.{Answered}
+use Rattle.outcome.specs.declared.Answered.{Answered}
 
 -- The machine after the events, heads beside values.
 unfoldable pub end_of : Machine → List ℕ → List ℕ → Machine
@@ -39,4 +40,4 @@ played_of n k heads values =
 
 -- What an event answers, and what it is refused with.
 abbrev pub answered_of : Machine → ℕ → ℕ → Answered
-answered_of m head value = record { answer = (step_of m head value).answer; refusal = (step_of m head value).refusal }
+answered_of m head value = answered_by (step_of m head value)

@@ -44,11 +44,6 @@ impl Counters {
     {
         let out = self.errors.count_error(address);
         self.errors = out.machine;
-        // Wrapped again by hand: a function over a closure has a precondition, and no published call may have one.
-        Outcome {
-            machine: self,
-            answer: out.answer,
-            refusal: out.refusal,
-        }
+        out.with(self)
     }
 }

@@ -16,14 +16,6 @@ module _ (question : Bool) {r : Bool} (e : r ≡ question) where
   pub answered-yes : not r ≡ false → question ≡ true
   answered-yes h = sym e ∙ not-false r h
 
--- `if !is_sound()`.
-module _ (m : Machine) where
-  pub unsound : {r : Bool} → r ≡ sound_of m → not r ≡ true → sound_of m ≡ false
-  unsound = answered-no (sound_of m)
-
-  pub is-sound : {r : Bool} → r ≡ sound_of m → not r ≡ false → sound_of m ≡ true
-  is-sound = answered-yes (sound_of m)
-
 -- Question 8 as the code asks it, of an event that answers e where the machine is sound.
 pub sound-first : (m : Machine) (e : Outcome) {r : Outcome} → (sound_of m ≡ true → r ≡ e) → (sound_of m ≡ false → r ≡ refused m 8) → r ≡ sound_first m e
 sound-first m e {r} = go (sound_of m)

@@ -1,7 +1,6 @@
 -- A machine that was asked question 8 once. Every event keeps a sound machine sound, so that its events need not ask again.
 use Rattle.std.specs.Prelude.{ℕ, cond}
 use Rattle.handlers.specs.declared.Machine.{Machine}
-use Rattle.handlers.specs.declared.Answered.{Answered}
 use Rattle.handlers.specs.declared.Checked.{Checked}
 use Rattle.handlers.specs.Outcome.{CheckedOutcome}
 use Rattle.outcome.specs.Outcomes.{accepted_with, refused_with}
@@ -30,7 +29,3 @@ checked_step_of c head value =
       answer = (sound_step_of c.machine head value).answer;
       refusal = (sound_step_of c.machine head value).refusal;
     }
-
--- What an event answers, and what it is refused with.
-abbrev pub answered_by : CheckedOutcome → Answered
-answered_by o = record { answer = o.answer; refusal = o.refusal }

@@ -34,20 +34,17 @@ impl Machine {
     fn lift(self, out: pic::Outcome) -> Outcome
         ensures { result ≡ lifted self out }
     {
-        // Wrapped again by hand, here, in count and for a checked machine: a function over a closure has a precondition, and no published call may have one.
-        Outcome {
-            machine: self.with_controller(out.machine),
-            answer: out.answer,
-            refusal: out.refusal,
-        }
+        out.with(self.with_controller(out.machine))
     }
 
+    #[tactic(auto, unfolding(crate::specs::Service::sample_event))]
     pub(crate) fn sample_event(self, x: u32, v: u32) -> Outcome
         ensures { result ≡ sample_event self x v }
     {
         self.lift(pic_registers::sample(self.controller, x, v))
     }
 
+    #[tactic(auto, unfolding(crate::specs::Service::load_event))]
     pub(crate) fn load_event(self, offset: u32) -> Outcome
         ensures { result ≡ load_event self offset }
     {
@@ -68,6 +65,7 @@ impl Machine {
         self.lift(pic_registers::store(self.controller, offset, v))
     }
 
+    #[tactic(auto, unfolding(crate::specs::Service::csr_read_event))]
     pub(crate) fn csr_read_event(self, address: u32) -> Outcome
         ensures { result ≡ csr_read_event self address }
     {
@@ -78,6 +76,7 @@ impl Machine {
         self.lift(pic_csrs::csr_read(self.controller, address))
     }
 
+    #[tactic(auto, unfolding(crate::specs::Service::csr_write_event))]
     pub(crate) fn csr_write_event(self, address: u32, v: u32) -> Outcome
         ensures { result ≡ csr_write_event self address v }
     {
@@ -104,19 +103,17 @@ impl Machine {
     fn count(self, counted: counters::Outcome) -> Outcome
         ensures { result ≡ counted_in self counted }
     {
-        Outcome {
-            machine: self.with_counters(counted.machine),
-            answer: counted.answer,
-            refusal: counted.refusal,
-        }
+        counted.with(self.with_counters(counted.machine))
     }
 
+    #[tactic(auto, unfolding(crate::specs::Service::clock_event))]
     pub(crate) fn clock_event(self) -> Outcome
         ensures { result ≡ clock_event self }
     {
         self.count(self.counters.clock())
     }
 
+    #[tactic(auto, unfolding(crate::specs::Service::error_event))]
     pub(crate) fn error_event(self, address: u32) -> Outcome
         ensures { result ≡ error_event self address }
     {

@@ -9,6 +9,7 @@ mod sound;
 
 use counters::Counters;
 use handlers_service::Service;
+pub use outcome::Answered;
 use outcome::Answering;
 use pic::Controller;
 
@@ -24,14 +25,6 @@ pub struct Machine {
 pub type Outcome = outcome::Outcome<Machine>;
 
 impl Answering for Machine {}
-
-// What an event answers, and what it is refused with, 0 if it is accepted.
-#[derive(Clone, Copy)]
-pub struct Answered {
-    pub answer: u32,
-    // A number, as in an outcome.
-    pub refusal: u8,
-}
 
 // A machine that was asked whether it is sound. Its field is private, so that only `start` and `enter` make one.
 #[derive(Clone, Copy)]

@@ -22,6 +22,7 @@ impl Machine {
     }
 
     // Serves the winner: it is captured and pushed.
+    #[tactic(auto, unfolding(crate::specs::Service::take_event))]
     pub(crate) fn take_event(self) -> Outcome
         ensures { result ≡ take_event self }
     {
@@ -31,6 +32,7 @@ impl Machine {
     }
 
     // Opens the uppermost handler: current takes its rank.
+    #[tactic(auto, unfolding(crate::specs::Service::open_event))]
     pub(crate) fn open_event(self) -> Outcome
         ensures { result ≡ open_event self }
     {
@@ -40,6 +42,7 @@ impl Machine {
     }
 
     // Captures the winner, and serves it in the uppermost handler's place if it may.
+    #[tactic(auto, unfolding(crate::specs::Service::chain_event))]
     pub(crate) fn chain_event(self) -> Outcome
         ensures { result ≡ chain_event self }
     {
@@ -49,6 +52,7 @@ impl Machine {
     }
 
     // Ends the uppermost handler: current takes its saved rank.
+    #[tactic(auto, unfolding(crate::specs::Service::return_event))]
     pub(crate) fn return_event(self) -> Outcome
         ensures { result ≡ return_event self }
     {
@@ -58,6 +62,7 @@ impl Machine {
     }
 
     // Sets the mask to the value.
+    #[tactic(auto, unfolding(crate::specs::Service::set_mask_event))]
     pub(crate) fn set_mask_event(self, v: u32) -> Outcome
         ensures { result ≡ set_mask_event self v }
     {
@@ -65,6 +70,7 @@ impl Machine {
     }
 
     // Answers the source that a chain would serve now, or 0.
+    #[tactic(auto, unfolding(crate::specs::Service::look_event))]
     pub(crate) fn look_event(self) -> Outcome
         ensures { result ≡ look_event self }
     {
@@ -73,6 +79,7 @@ impl Machine {
     }
 
     // Captures the winner and serves it in the uppermost handler's place, if its source is this one.
+    #[tactic(auto, unfolding(crate::specs::Service::commit_event))]
     pub(crate) fn commit_event(self, source: u32) -> Outcome
         ensures { result ≡ commit_event self source }
     {

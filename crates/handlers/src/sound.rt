@@ -10,6 +10,7 @@ use pic::Controller;
 
 impl Machine {
     // The machine at power-on with n sources; where n is not 2..255, refusal 2 and the machine of 2 sources.
+    #[tactic(auto, unfolding(crate::specs::Machines::power_on_of), using(pic::proofs::Calling::power_on_answers_0))]
     pub fn power_on(n: u32) -> Outcome
         ensures { result ≡ power_on_of n }
     {
@@ -22,14 +23,11 @@ impl Machine {
             counters: t,
             controller: c,
         };
-        Outcome {
-            machine: m,
-            answer: 0,
-            refusal: on.refusal,
-        }
+        on.with(m)
     }
 
     // Question 8.
+    #[tactic(auto, unfolding(crate::specs::Machines::sound_of))]
     pub fn is_sound(self) -> bool
         ensures { result ≡ sound_of self }
     {

@@ -1,7 +1,7 @@
 -- Document 01, "The player": a bench that plays a long record lends one machine and has it changed.
 use Rattle.std.specs.Prelude.{ℕ}
 use Rattle.handlers.specs.declared.Machine.{Machine}
-use Rattle.handlers.specs.declared.Answered.{Answered}
+use Rattle.outcome.specs.declared.Answered.{Answered}
 use Rattle.claims.specs.Play as play
 
 -- What an event answers, and what it is refused with.

@@ -2,7 +2,7 @@
 #![tactic(auto)]
 
 ghost use Rattle.std.specs.Prelude.{◌≡◌};
-ghost use Rattle.outcome.specs.Outcomes.{accepted_with, refused_with, refused_for};
+ghost use Rattle.outcome.specs.Outcomes.{accepted_with, refused_with, refused_for, with_machine, answered_by};
 
 use questions::Refusal;
 
@@ -13,6 +13,38 @@ pub struct Outcome<M> {
     pub answer: u32,
     // A number: 01 has an event hand back machine, answer and number, and lists store the numbers as they are.
     pub refusal: u8,
+}
+
+// What an event answers, and what it is refused with, 0 if it is accepted.
+#[derive(Clone, Copy)]
+pub struct Answered {
+    pub answer: u32,
+    // A number, as in an outcome.
+    pub refusal: u8,
+}
+
+impl<M> Outcome<M> {
+    // What it says of the event, with no machine.
+    pub fn answered(&self) -> Answered
+        ensures { result ≡ answered_by self.now }
+    {
+        Answered {
+            answer: self.answer,
+            refusal: self.refusal,
+        }
+    }
+
+    // The same outcome of another machine, of which this one may be a part.
+    pub fn with<N>(&self, machine: N) -> Outcome<N>
+        ensures { result ≡ with_machine self.now machine }
+    {
+        let said = self.answered();
+        Outcome {
+            machine,
+            answer: said.answer,
+            refusal: said.refusal,
+        }
+    }
 }
 
 // A machine, or a part of one, that answers events.

@@ -1,9 +1,9 @@
-use lib.ListN.{length, set, length-set}
+use lib.ListN.{length, get_or, set, length-set}
 use Prim.Native.Nat.{◌<◌}
 use mathlib.Core.Path.{◌≡◌, refl, ap, ◌∙◌}
 use native.Mathlib.Omega.{arith}
 use Rattle.handlers.specs.Outcome.{Outcome}
-use Rattle.handlers.specs.declared.Answered.{Answered}
+use Rattle.outcome.specs.declared.Answered.{Answered}
 use Rattle.claims.specs.Play.{end_of, each_of}
 use Rattle.claims.proofs.Playing.{count_fits, machine-turn, stored-turn, claimed, machine-end}
 use Rattle.claims.proofs.play_on.Goals as goal
@@ -22,14 +22,19 @@ loop-i-preserved g c =
     let w : i < length c.args.values.now = omega (arith, c.loop-i-test.true, v.0.values) in
     let a : i < length c.args.answers.now = omega (arith, c.loop-i-test.true, v.0.answers) in
     let r : i < length c.args.refusals.now = omega (arith, c.loop-i-test.true, v.0.refusals) in
-    let e = c.advance-answered.ensures in (
+    let head = get_or c.args.heads.now i 0 in
+    let value = get_or c.args.values.now i 0 in
+    let e = c.advance-answered.ensures in
+    let ready = v.6 in
+    let step = g.met.P.Plays.steps c.loop-i.m head value ready in
+    let says = e.value ∙ g.met.P.Plays.answers c.loop-i.m head value ready in (
       v.0,
       simp length-set v.1,
       simp length-set v.2,
-      e.machine ∙ machine-turn _ _ _ _ h w v.3 refl,
-      ap (λ (z : Answered). set c.loop-i.answers i z.answer) e.value ∙ stored-turn _ _ _ _ h w v.3 (λ (o : Outcome). o.answer) _ refl a v.4,
-      ap (λ (z : Answered). set c.loop-i.refusals i z.refusal) e.value ∙ stored-turn _ _ _ _ h w v.3 (λ (o : Outcome). o.refusal) _ refl r v.5,
-      e.ready,
+      ap g.P.Plays.machine e.self_after ∙ step ∙ machine-turn _ _ _ _ h w v.3 refl,
+      ap (λ (z : Answered). set c.loop-i.answers i z.answer) says ∙ stored-turn _ _ _ _ h w v.3 (λ (o : Outcome). o.answer) _ refl a v.4,
+      ap (λ (z : Answered). set c.loop-i.refusals i z.refusal) says ∙ stored-turn _ _ _ _ h w v.3 (λ (o : Outcome). o.refusal) _ refl r v.5,
+      rw e.self_after (g.met.P.Plays.keeps c.loop-i.m head value (c.type_inv.values i).fits ready),
     )
 
 pub returns-clause-claimed : goal.returns-clause-claimed
