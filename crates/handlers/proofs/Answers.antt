@@ -1,20 +1,11 @@
--- What the code's questions show, in the words of the rules.
-use mathlib.Core.Path.{◌≡◌, refl, sym, ◌∙◌}
-use mathlib.Core.Bool.{Bool, true, false, not, cond}
-use borrow.Author.Tests.{not-true, not-false}
+-- What question 8 shows, in the words of the rules.
+use mathlib.Core.Path.{◌≡◌, refl}
+use mathlib.Core.Bool.{Bool, true, false, cond}
 use Rattle.handlers.specs.declared.Machine.{Machine}
 use Rattle.handlers.specs.Outcome.{Outcome}
 use Rattle.handlers.specs.Machines.{sound_of}
 use Rattle.handlers.specs.Service.{refused}
 use Rattle.handlers.specs.Calls.{sound_first}
-
--- `if !r`, where r is the answer to a question.
-module _ (question : Bool) {r : Bool} (e : r ≡ question) where
-  pub answered-no : not r ≡ true → question ≡ false
-  answered-no h = sym e ∙ not-true r h
-
-  pub answered-yes : not r ≡ false → question ≡ true
-  answered-yes h = sym e ∙ not-false r h
 
 -- Question 8 as the code asks it, of an event that answers e where the machine is sound.
 pub sound-first : (m : Machine) (e : Outcome) {r : Outcome} → (sound_of m ≡ true → r ≡ e) → (sound_of m ≡ false → r ≡ refused m 8) → r ≡ sound_first m e

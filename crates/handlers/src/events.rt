@@ -51,6 +51,7 @@ impl Machine {
         self.lift(pic_registers::load(self.controller, offset))
     }
 
+    #[tactic(auto, unfolding(crate::specs::Service::store_event))]
     pub(crate) fn store_event(self, offset: u32, v: u32) -> Outcome
         ensures { result ≡ store_event self offset v }
     {
@@ -90,6 +91,7 @@ impl Machine {
     }
 
     // A write of v to a CSR of the controller.
+    #[tactic(auto, unfolding(crate::specs::Service::controller_write))]
     fn controller_write(self, address: u32, v: u32) -> Outcome
         ensures { result ≡ controller_write self address v }
     {
