@@ -42,6 +42,7 @@ pub fn play_on<P: Plays>(
         lesser(heads.len(), values.len()),
         lesser(answers.len(), refusals.len()),
     );
+    // By the index: four slices of four lengths, and their least is the answer.
     for i in 0..k {
         let answered = m.advance(heads[i], values[i]);
         answers[i] = answered.answer;

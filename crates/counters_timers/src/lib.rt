@@ -4,7 +4,8 @@
 mod both;
 mod one;
 
-// An internal timer: its counter, its bound and its control (bit 0 enable, bit 1 halt_en, bit 2 pause_en).
+// An internal timer: its counter, its bound and its control (bit 0 enable, bit 1 halt_en, bit 2 pause_en). Words as the registers hold them: question 8 is asked
+// of any such values, sound or not.
 #[derive(Clone, Copy)]
 pub struct Timer {
     pub count: u32,
@@ -19,7 +20,7 @@ pub struct Timers {
     pub timer1: Timer,
 }
 
-// What a clock hands back. The answer has bit 0 for timer 0 and bit 1 for timer 1.
+// What a clock hands back. The answer has bit 0 for timer 0 and bit 1 for timer 1. No outcome: a clock is not refused.
 #[derive(Clone, Copy)]
 pub struct Clocked {
     pub timers: Timers,

@@ -28,7 +28,7 @@ fn mirrored(priord: u8, n: u8) -> u8
     ensures { result ≡ mirror priord n }
 {
     let z = closed_form(order(priord), n);
-    (z * ((z >= 0) as i32)) as u8
+    z.max(0) as u8
 }
 
 // The field of a rank.

@@ -7,7 +7,7 @@ ghost use Rattle.pic_source.specs.Sources.{is_source, latch_after, is_pending, i
 pub fn is_source(n: u8, s: u32) -> bool
     ensures { result ≡ is_source n s }
 {
-    (1 <= s) & (s <= n as u32)
+    (1..=u32::from(n)).contains(&s)
 }
 
 // A latch after an event that left its line, its polarity and itself so.
