@@ -1,6 +1,7 @@
 -- The stack: one turn of its soundness test, and what the test says of each handler.
 use Prim.Native.Nat.{ℕ, zero, suc, ◌+◌, ◌-◌, ◌≤◌, ◌<◌}
 use mathlib.Core.Path.{◌≡◌, refl, ap}
+use Rattle.std.specs.Prelude.{Option, None, Some}
 use mathlib.Core.Bool.{Bool, true, ◌&&◌}
 use mathlib.Core.List.{List}
 use mathlib.Core.Logic.{◌⊎◌, inl, inr, ⊎_elim}
@@ -13,19 +14,25 @@ use borrow.Author.Tests.{leb-true, ltb-true, eqb-true, le-leb, lt-ltb, eq-eqb, n
 use Rattle.pic_source.proofs.Bools.{and_parts, or_cases, or-intro, eq-cases, all-at}
 use Rattle.handlers_stack.specs.declared.Handler.{Handler}
 use Rattle.pic_source.specs.declared.Rank.{Rank}
-use Rattle.handlers_stack.specs.Stacks.{blank, handler_tests, handler_sound, handler_at, below_of, sound_at, handlers_sound, level_of}
+use Rattle.handlers_stack.specs.Stacks.{blank, handler_tests, handler_sound, sound_over, handler_at, below_of, sound_at, handlers_sound, level_of}
+
+-- The rank of the handler below handler k, where there is one.
+unfoldable pub rank_under : List Handler → ℕ → Option Rank
+rank_under stack zero = None
+rank_under stack (suc k) = Some (handler_at stack k).rank
 
 -- One turn of `handlers_sound`.
-module _ (n depth : ℕ) (stack : List Handler) (k : ℕ) where
-  pub handlers-turn : {ok good : Bool} {below : Rank} → ok ≡ handlers_sound n depth stack k → below ≡ below_of stack k
-      → good ≡ handler_sound n (eqb (k + 1) depth) (eqb k 0) below (handler_at stack k)
+module _ (n depth : ℕ) (stack : List Handler) where
+  over-under : (top : Bool) (h : Handler) (k : ℕ) → sound_over n top (rank_under stack k) h ≡ handler_sound n top (eqb k 0) (below_of stack k) h
+  unfolding rank_under below_of
+  over-under top h zero = refl
+  over-under top h (suc k) = rw (ne_eqb (suc k) 0 (λ e. omega arith))
+
+  pub handlers_turn : (k : ℕ) {ok good : Bool} {below : Option Rank} → ok ≡ handlers_sound n depth stack k → below ≡ rank_under stack k
+      → good ≡ sound_over n (eqb (k + 1) depth) below (handler_at stack k)
       → ok && good ≡ handlers_sound n depth stack (k + 1)
   unfolding handlers_sound
-  handlers-turn ho hb hg = rw (ho, hg, hb, add-one)
-
-  pub below-turn : (handler_at stack k).rank ≡ below_of stack (k + 1)
-  unfolding below_of
-  below-turn = rw add-one
+  handlers_turn k ho hb hg = rw (ho, hg, hb, over-under, add-one)
 
 -- What the test says of handler k, in numbers.
 pub record Fine (n depth : ℕ) (stack : List Handler) (k : ℕ) : Type 0 where

@@ -1,5 +1,5 @@
 -- Document 01, "What a machine holds": the stack of handlers.
-use Rattle.std.specs.Prelude.{ℕ, zero, suc, ◌-◌, Bool, true, cond, ◌&&◌, ◌||◌, List, [], ◌∷◌, get_or, leb, ltb, eqb}
+use Rattle.std.specs.Prelude.{ℕ, zero, suc, ◌-◌, Bool, true, false, Option, None, Some, cond, ◌&&◌, ◌||◌, List, [], ◌∷◌, get_or, leb, ltb, eqb}
 use Rattle.pic_source.specs.declared.Rank.{Rank}
 use Rattle.pic_source.specs.Ranks.{rank}
 use Rattle.pic_source.specs.Tests.{all_hold}
@@ -27,6 +27,11 @@ handler_tests n top lowest below h =
 
 unfoldable pub handler_sound : ℕ → Bool → Bool → Rank → Handler → Bool
 handler_sound n top lowest below h = all_hold (handler_tests n top lowest below h)
+
+-- The same with the rank of the handler below, where there is one.
+abbrev pub sound_over : ℕ → Bool → Option Rank → Handler → Bool
+sound_over n top None h = handler_sound n top true (rank 0) h
+sound_over n top (Some below) h = handler_sound n top false below h
 
 -- Handler k, counted from the lowest, 0.
 abbrev pub handler_at : List Handler → ℕ → Handler
