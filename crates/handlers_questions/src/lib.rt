@@ -19,6 +19,7 @@ pub fn may_store(offset: u32, v: u32, priord: u8, depth: u8) -> bool
 }
 
 // Question 26: whether n may be committed where a look would answer this.
+// A number, and no Option: by 02 the answer 0 is none.
 pub fn may_commit(n: u32, next: u32) -> bool
     ensures { result ≡ may_commit n next }
 {
