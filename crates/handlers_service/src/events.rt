@@ -1,8 +1,9 @@
 // Take, open, chain, return, set mask, look and commit, on mask and stack: their questions, what they do and what they answer.
 
-ghost use Rattle.std.specs.Prelude.{◌≡◌, ◌-◌, pos, if◌then◌else◌, int_lt, nat_eq, nat_lt};
-ghost use Rattle.questions.specs.Numbers.{number_in};
-ghost use Rattle.handlers_service.specs.Events.{pushed, take_of, with_uppermost, marked, open_of, serves_in, replaced, served, followed, chain_of, popped, return_of, set_mask_of, next_in, look_of, commit_of};
+ghost use Rattle.std.specs.Prelude.{◌≡◌, unwrap_or, pos, int_lt};
+ghost use Rattle.handlers_service.specs.Outcome.{Outcome};
+ghost use Rattle.handlers_service.specs.Sound.{uppermost as uppermost_handler};
+ghost use Rattle.handlers_service.specs.Events.{pushed, take_of, with_uppermost, marked, open_of, in_handler, serves_in, replaced, served, chain_of, popped, return_of, set_mask_of, next_in, look_of, commit_of};
 
 use crate::{Outcome, Service};
 use handlers_questions::may_commit;
@@ -24,38 +25,32 @@ fn is_above(margin: i32) -> bool
 fn serves_in(h: Handler, look: Look) -> bool
     ensures { result ≡ serves_in h look }
 {
-    let w = look.winner;
-    // By the numbers, as the rule compares them.
-    (w.rank.0 == h.rank.0) & look.above
+    (look.winner.rank == h.rank) & look.above
 }
 
-// The source that a chain in the handler h would serve by this look, or 0.
-// No Option: a look answers that 0.
-fn next_in(h: Handler, look: Look) -> u32
-    ensures { result ≡ next_in h look }
+// The source that a chain in the handler h would serve by this look.
+fn next_in(h: Handler, look: Look) -> Option<u32>
+    ensures { unwrap_or result 0 ≡ next_in h look }
 {
-    if serves_in(h, look) {
-        let w = look.winner;
-        return u32::from(w.source);
-    }
-    0
-}
-
-// Questions 17 and 19: whether a handler is open, and the mask 0.
-#[tactic(auto, unfolding(questions::specs::Numbers::number_in))]
-fn handler_question(depth: u8, mask: u8) -> Result<(), Refusal>
-    ensures { number_in result ≡ (if nat_lt 0 depth then (if nat_eq mask 0 then 0 else 19) else 17) }
-{
-    if depth == 0 {
-        return Err(Refusal::NoHandler);
-    }
-    if mask != 0 {
-        return Err(Refusal::InterruptsOn);
-    }
-    Ok(())
+    serves_in(h, look).then_some(u32::from(look.winner.source))
 }
 
 impl Service {
+    // Questions 17 and 19 come first; where a handler is open and the mask is 0, the event is played in the uppermost handler.
+    // Where the event can answer o alone, the rule says what is made of it.
+    fn in_handler<F: FnOnce(Service, Handler) -> Outcome>(self, event: F) -> Outcome
+        requires { F.pre event self (uppermost_handler self) }
+        ensures { (o : Outcome) → ((r : Outcome) → F.post event self (uppermost_handler self) r → r ≡ o) → result ≡ in_handler self o }
+    {
+        if self.depth == 0 {
+            self.refuse_for(Refusal::NoHandler)
+        } else if self.mask != 0 {
+            self.refuse_for(Refusal::InterruptsOn)
+        } else {
+            event(self, self.uppermost())
+        }
+    }
+
     // The service with another uppermost handler.
     fn with_uppermost(mut self, h: Handler) -> Service
         ensures { result ≡ with_uppermost self h }
@@ -121,25 +116,17 @@ impl Service {
     }
 
     // Serves the winner of this look in the uppermost handler's place, if it is of that handler's rank and above the threshold; else answers 0.
-    #[tactic(auto, unfolding(crate::specs::Events::chain_of, questions::specs::Numbers::number_in))]
+    #[tactic(auto, unfolding(crate::specs::Events::chain_of))]
     pub fn chain(mut self, look: Look) -> Outcome
         ensures { result ≡ chain_of self look }
     {
-        if let Err(q) = handler_question(self.depth, self.mask) {
-            return self.refuse_for(q);
-        }
-        self.follow(look)
-    }
-
-    // A chain in the uppermost handler.
-    fn follow(self, look: Look) -> Outcome
-        ensures { result ≡ followed self look }
-    {
-        let h = self.uppermost();
-        if serves_in(h, look) {
-            return self.serve(look);
-        }
-        self.accept(0)
+        self.in_handler(|s, h| {
+            if serves_in(h, look) {
+                s.serve(look)
+            } else {
+                s.accept(0)
+            }
+        })
     }
 
     // The winner of this look in the place of the uppermost handler's source. Answer: meihap.
@@ -163,11 +150,10 @@ impl Service {
     pub fn return_from(mut self) -> Outcome
         ensures { result ≡ return_of self }
     {
-        let d = self.depth;
-        if let Err(q) = handler_question(d, self.mask) {
-            return self.refuse_for(q);
-        }
-        self.pop().accept(u32::from(d.saturating_sub(1)))
+        self.in_handler(|s, _| {
+            let popped = s.pop();
+            popped.accept(u32::from(popped.depth))
+        })
     }
 
     // One handler less, and the mask on.
@@ -200,11 +186,7 @@ impl Service {
     pub fn look(mut self, look: Look) -> Outcome
         ensures { result ≡ look_of self look }
     {
-        if let Err(q) = handler_question(self.depth, self.mask) {
-            return self.refuse_for(q);
-        }
-        let h = self.uppermost();
-        self.accept(next_in(h, look))
+        self.in_handler(|s, h| s.accept(next_in(h, look).unwrap_or(0)))
     }
 
     // Serves the source n in the uppermost handler's place, if it is what a look would answer now.
@@ -212,13 +194,12 @@ impl Service {
     pub fn commit(mut self, look: Look, n: u32) -> Outcome
         ensures { result ≡ commit_of self look n }
     {
-        if let Err(q) = handler_question(self.depth, self.mask) {
-            return self.refuse_for(q);
-        }
-        let h = self.uppermost();
-        if !may_commit(n, next_in(h, look)) {
-            return self.refuse_for(Refusal::NotTheNext);
-        }
-        self.serve(look)
+        self.in_handler(|s, h| {
+            if next_in(h, look).is_some_and(|next| may_commit(n, next)) {
+                s.serve(look)
+            } else {
+                s.refuse_for(Refusal::NotTheNext)
+            }
+        })
     }
 }

@@ -10,6 +10,7 @@ use outcome::Answering;
 
 // The mask, 0 interrupts off, 1 on, and the handlers. Places of the stack from depth up mean nothing.
 // Numbers for flags and for the depth: question 8 is asked of any such value, sound or not.
+// The stack and its depth are no struct: the rules `uppermost_of` and `handlers_sound` and docs/RULES.md speak of the two, and tests give them unsound values.
 #[derive(Clone, Copy)]
 pub struct Service {
     pub mask: u8,

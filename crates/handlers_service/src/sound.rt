@@ -36,11 +36,10 @@ impl Service {
         let d = self.depth;
         let s = self.stack;
         let h = uppermost(s, d);
-        let l = level(h);
         (d <= 15)
             & (self.mask <= 1)
             & handlers_sound(n, d, s)
-            & ((d == 0) | (current.0 == l.0))
+            & ((d == 0) | (current == level(h)))
             & ((self.mask == 0) | ((d == 0) | (h.opened == 1)))
     }
 }
