@@ -1,3 +1,2 @@
 -- Laws of the handler service.
-pub mod Answers
 pub mod Margins

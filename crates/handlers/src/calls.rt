@@ -1,10 +1,9 @@
 // The published events of the machine, an event of any kind, and the margin query. Each asks question 8 first.
 
-ghost use Rattle.std.specs.Prelude.{◌≡◌, true, false};
-ghost use Rattle.handlers.specs.Machines.{sound_of};
-ghost use Rattle.handlers.specs.Service.{refused};
+ghost use Rattle.std.specs.Prelude.{◌≡◌};
 ghost use Rattle.handlers.specs.Margins.{margin_numbers};
-ghost use Rattle.handlers.specs.Calls.{sample_of, load_of, store_of, csr_read_of, csr_write_of, take_of, open_of, chain_of, return_of, set_mask_of, clock_of, error_of, look_of, commit_of, step_of, margin_answer};
+ghost use Rattle.handlers.specs.Outcome.{Outcome};
+ghost use Rattle.handlers.specs.Calls.{sound_first, sample_of, load_of, store_of, csr_read_of, csr_write_of, take_of, open_of, chain_of, return_of, set_mask_of, clock_of, error_of, look_of, commit_of, step_of, margin_answer};
 
 use crate::{Machine, Outcome};
 use outcome::Answering;
@@ -14,8 +13,7 @@ impl Machine {
     // Question 8 comes first; the event is asked and played where the machine is sound.
     fn when_sound<F: FnOnce(Machine) -> Outcome>(self, event: F) -> Outcome
         requires { F.pre event self }
-        ensures asked { sound_of self ≡ true → F.post event self result }
-        ensures refused { sound_of self ≡ false → result ≡ refused self 8 }
+        ensures { (o : Outcome) → ((r : Outcome) → F.post event self r → r ≡ o) → result ≡ sound_first self o }
     {
         if self.is_sound() {
             event(self)
@@ -25,6 +23,7 @@ impl Machine {
     }
 
     // The lines of word x take the bits of v.
+    #[tactic(auto, unfolding(crate::specs::Calls::sample_of))]
     pub fn sample(mut self, x: u32, v: u32) -> Outcome
         ensures { result ≡ sample_of self x v }
     {
@@ -32,6 +31,7 @@ impl Machine {
     }
 
     // A load of the word at an offset.
+    #[tactic(auto, unfolding(crate::specs::Calls::load_of))]
     pub fn load(mut self, offset: u32) -> Outcome
         ensures { result ≡ load_of self offset }
     {
@@ -39,6 +39,7 @@ impl Machine {
     }
 
     // A store of the word v at an offset.
+    #[tactic(auto, unfolding(crate::specs::Calls::store_of))]
     pub fn store(mut self, offset: u32, v: u32) -> Outcome
         ensures { result ≡ store_of self offset v }
     {
@@ -46,6 +47,7 @@ impl Machine {
     }
 
     // A read of a CSR.
+    #[tactic(auto, unfolding(crate::specs::Calls::csr_read_of))]
     pub fn csr_read(mut self, address: u32) -> Outcome
         ensures { result ≡ csr_read_of self address }
     {
@@ -53,6 +55,7 @@ impl Machine {
     }
 
     // A write of v to a CSR.
+    #[tactic(auto, unfolding(crate::specs::Calls::csr_write_of))]
     pub fn csr_write(mut self, address: u32, v: u32) -> Outcome
         ensures { result ≡ csr_write_of self address v }
     {
@@ -60,6 +63,7 @@ impl Machine {
     }
 
     // Serves the winner: it is pushed, unopened, with the current rank as saved.
+    #[tactic(auto, unfolding(crate::specs::Calls::take_of))]
     pub fn take(mut self) -> Outcome
         ensures { result ≡ take_of self }
     {
@@ -67,6 +71,7 @@ impl Machine {
     }
 
     // Opens the uppermost handler: it can be interrupted again by a higher rank.
+    #[tactic(auto, unfolding(crate::specs::Calls::open_of))]
     pub fn open(mut self) -> Outcome
         ensures { result ≡ open_of self }
     {
@@ -74,6 +79,7 @@ impl Machine {
     }
 
     // Serves the winner in the uppermost handler's place, if it is of that handler's rank and above the threshold; else answers 0.
+    #[tactic(auto, unfolding(crate::specs::Calls::chain_of))]
     pub fn chain(mut self) -> Outcome
         ensures { result ≡ chain_of self }
     {
@@ -81,6 +87,7 @@ impl Machine {
     }
 
     // Ends the uppermost handler, and puts back the current rank that its taking found.
+    #[tactic(auto, unfolding(crate::specs::Calls::return_of))]
     pub fn return_from(mut self) -> Outcome
         ensures { result ≡ return_of self }
     {
@@ -88,6 +95,7 @@ impl Machine {
     }
 
     // Sets the mask to the value.
+    #[tactic(auto, unfolding(crate::specs::Calls::set_mask_of))]
     pub fn set_mask(mut self, v: u32) -> Outcome
         ensures { result ≡ set_mask_of self v }
     {
@@ -95,6 +103,7 @@ impl Machine {
     }
 
     // One clock of the timers.
+    #[tactic(auto, unfolding(crate::specs::Calls::clock_of))]
     pub fn clock(mut self) -> Outcome
         ensures { result ≡ clock_of self }
     {
@@ -102,6 +111,7 @@ impl Machine {
     }
 
     // One error in the counter that the address names, 0 to 2.
+    #[tactic(auto, unfolding(crate::specs::Calls::error_of))]
     pub fn count_error(mut self, address: u32) -> Outcome
         ensures { result ≡ error_of self address }
     {
@@ -109,6 +119,7 @@ impl Machine {
     }
 
     // The source that a chain would serve now, or 0. Nothing is changed.
+    #[tactic(auto, unfolding(crate::specs::Calls::look_of))]
     pub fn look(mut self) -> Outcome
         ensures { result ≡ look_of self }
     {
@@ -116,6 +127,7 @@ impl Machine {
     }
 
     // Serves this source in the uppermost handler's place, if it is what a look would answer now.
+    #[tactic(auto, unfolding(crate::specs::Calls::commit_of))]
     pub fn commit(mut self, source: u32) -> Outcome
         ensures { result ≡ commit_of self source }
     {
@@ -123,6 +135,7 @@ impl Machine {
     }
 
     // One event, a head and a value: the machine that it hands back, its answer and its refusal.
+    #[tactic(auto, unfolding(crate::specs::Calls::step_of))]
     pub fn step(mut self, head: u32, value: u32) -> Outcome
         ensures { result ≡ step_of self head value }
     {
