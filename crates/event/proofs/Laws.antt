@@ -1,16 +1,14 @@
--- What `shape` answers is what the rules' table says; and which question fails first.
+-- Questions 6 and 7 of an event by the rules' table, and which fails first.
 use Prim.Native.Nat.{ℕ, ◌<◌, ◌≤◌}
-use mathlib.Core.Path.{◌≡◌, refl, sym, ap, ◌∙◌}
+use mathlib.Core.Path.{◌≡◌, refl}
 use mathlib.Core.Bool.{Bool, true, false, cond, ◌&&◌, ◌||◌}
 use mathlib.Core.Logic.{◌⊎◌, inl, inr}
 use native.Mathlib.Omega.{arith}
 use lib.ListN.{length}
 use lib.Dec.{lit≤, eqb}
-use borrow.Author.Tests.{lt-ltb, le-ltb, ltb-true, ltb-false}
+use borrow.Author.Tests.{le-ltb, ltb-true, ltb-false}
 use Rattle.event.specs.Kinds as kind
 use Rattle.event.specs.Kinds.{number_of_kind}
-use Rattle.event.specs.declared.kinds.Kind.{Kind}
-use Rattle.event.specs.declared.kinds.Kind.TheVariants as named
 use Rattle.event.specs.Event.{uses, kinds, kind_of, address_of, head_of, is_kind, row_of, unused_are_zero, shape_of, ErrorShape, CommitShape, LookShape, ChainShape}
 
 -- A kind is printed in at most two digits.
@@ -20,11 +18,6 @@ kinds-two-digits = lit≤ tt
 pub shape-6 : (head value : ℕ) → length kinds ≤ kind_of head → 6 ≡ shape_of head value
 unfolding shape_of
 shape-6 head value h = rw (le-ltb _ _ h)
-
-pub shape-kind : (head value : ℕ) (t : Bool) → kind_of head < length kinds → unused_are_zero (kind_of head) (address_of head) value ≡ t
-    → cond t 0 7 ≡ shape_of head value
-unfolding shape_of
-shape-kind head value t h e = rw (lt-ltb _ _ h, e)
 
 -- An event that passes question 6 is of a kind that has a row.
 pub kind-known : (head value : ℕ) → shape_of head value ≡ 0 → kind_of head < length kinds
@@ -72,24 +65,3 @@ kind-of k a h = omega (arith, h)
 
 pub address-of : (k a : ℕ) → a < 65536 → address_of (head_of k a) ≡ a
 address-of k a h = omega (arith, h)
-
--- A number that no kind has is refused with 6.
-pub no-kind : (head value : ℕ) {k : ℕ} → is_kind k ≡ false → k ≡ kind_of head → shape_of head value ≡ 6
-no-kind head value {k} e h = sym (shape-6 head value (ltb-false (kind_of head) (length kinds) (ap is_kind (sym h) ∙ e)))
-
--- Of the kinds the chain alone has number 7.
-pub only-chain : (k : Kind) → (k ≡ named.Chain → ⊥) → number_of_kind k ≡ kind.chain → ⊥
-only-chain named.Sample h e = omega arith
-only-chain named.Load h e = omega arith
-only-chain named.Store h e = omega arith
-only-chain named.CsrRead h e = omega arith
-only-chain named.CsrWrite h e = omega arith
-only-chain named.Take h e = omega arith
-only-chain named.Open h e = omega arith
-only-chain named.Chain h e = h refl
-only-chain named.Return h e = omega arith
-only-chain named.SetMask h e = omega arith
-only-chain named.Clock h e = omega arith
-only-chain named.Error h e = omega arith
-only-chain named.Look h e = omega arith
-only-chain named.Commit h e = omega arith

@@ -123,31 +123,27 @@ impl Machine {
     }
 
     // One event, a head and a value, on a machine that is known to be sound: 6 and 7, then the event by its kind.
+    #[tactic(auto, unfolding(questions::specs::Numbers::number_in, crate::specs::Service::event_of, crate::specs::Service::sound_step_of))]
     pub(crate) fn sound_step(self, head: u32, value: u32) -> Outcome
         ensures { result ≡ sound_step_of self head value }
     {
-        if let Err(refusal) = event::shape(head, value) {
-            return self.refuse_for(refusal);
-        }
-        let Ok(kind) = Kind::try_from(event::kind(head)) else {
-            return self.refuse_for(Refusal::NoSuchKind);
-        };
         let address = event::address(head);
-        match kind {
-            Kind::Sample => self.sample_event(address, value),
-            Kind::Load => self.load_event(address),
-            Kind::Store => self.store_event(address, value),
-            Kind::CsrRead => self.csr_read_event(address),
-            Kind::CsrWrite => self.csr_write_event(address, value),
-            Kind::Take => self.take_event(),
-            Kind::Open => self.open_event(),
-            Kind::Chain => self.chain_event(),
-            Kind::Return => self.return_event(),
-            Kind::SetMask => self.set_mask_event(value),
-            Kind::Clock => self.clock_event(),
-            Kind::Error => self.error_event(address),
-            Kind::Look => self.look_event(),
-            Kind::Commit => self.commit_event(address),
+        match event::kind_asked(head, value) {
+            Ok(Kind::Sample) => self.sample_event(address, value),
+            Ok(Kind::Load) => self.load_event(address),
+            Ok(Kind::Store) => self.store_event(address, value),
+            Ok(Kind::CsrRead) => self.csr_read_event(address),
+            Ok(Kind::CsrWrite) => self.csr_write_event(address, value),
+            Ok(Kind::Take) => self.take_event(),
+            Ok(Kind::Open) => self.open_event(),
+            Ok(Kind::Chain) => self.chain_event(),
+            Ok(Kind::Return) => self.return_event(),
+            Ok(Kind::SetMask) => self.set_mask_event(value),
+            Ok(Kind::Clock) => self.clock_event(),
+            Ok(Kind::Error) => self.error_event(address),
+            Ok(Kind::Look) => self.look_event(),
+            Ok(Kind::Commit) => self.commit_event(address),
+            Err(refusal) => self.refuse_for(refusal),
         }
     }
 }

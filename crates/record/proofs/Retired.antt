@@ -9,7 +9,7 @@ use borrow.Author.Tests.{eq-eqb, ne_eqb, eqb-true, eqb-false, ltb-false}
 use lib.Dec.{eqb}
 use lib.ListN.{length, get_or}
 use Rattle.event.specs.Event.{kinds, kind_of, address_of, is_kind, unused_are_zero, shape_of}
-use Rattle.event.proofs.Laws.{shape-6, FirstNo, first-question, chain-shape}
+use Rattle.event.proofs.Laws.{shape-6, FirstNo, first-question}
 use Rattle.record.specs.Questions.{verdict, no_refusal, is_retired, write_shape_of, walk}
 use Rattle.record.specs.Retired.{RetiredAlone, AcceptsOthers, FirstNoOf, FirstNoWriting, RetiredAt, NoneRetired, FirstRetired, SomeRetired, NoneOrFirst, WalksBeside, WritesNoneRetired}
 use Rattle.record.proofs.Walk.{walk-clear, walk-yes, walk_ends}
@@ -42,19 +42,11 @@ accepts-others head value = rw (retired-alone head value) (go (is_retired head) 
     go false s = refl
 
 -- An event of kind 7, and any other.
-pub of-retired : (head value : ℕ) → kind_of head ≡ 7 → write_shape_of head value ≡ 27
+of-retired : (head value : ℕ) → kind_of head ≡ 7 → write_shape_of head value ≡ 27
 of-retired head value e = retired-alone head value ∙ rw (eq-eqb (kind_of head) 7 e)
 
-pub of_other : (head value : ℕ) → (kind_of head ≡ 7 → ⊥) → write_shape_of head value ≡ shape_of head value
+of_other : (head value : ℕ) → (kind_of head ≡ 7 → ⊥) → write_shape_of head value ≡ shape_of head value
 of_other head value e = retired-alone head value ∙ rw (ne_eqb (kind_of head) 7 e)
-
--- One that question 6 refuses is of no kind, so not of kind 7.
-pub of-six : (head value : ℕ) → shape_of head value ≡ 6 → write_shape_of head value ≡ 6
-of-six head value e = of_other head value (λ k. go (eqb (address_of head) 0 && eqb value 0) (sym e ∙ chain-shape head value k)) ∙ e
-  where
-    go : (t : Bool) → ◌≡◌ {A = ℕ} 6 (cond t 0 7) → ⊥
-    go true h = omega (arith, h)
-    go false h = omega (arith, h)
 
 -- What is accepted is no event of kind 7.
 not-retired : (head value : ℕ) → write_shape_of head value ≡ 0 → kind_of head ≡ 7 → ⊥

@@ -47,15 +47,13 @@ fn put_record(sources: u32, heads: &[u32], values: &[u32], bytes: &mut [u8])
 }
 
 // Questions 6, 27 and 7 of an event that is written, first no decides.
+#[tactic(auto, unfolding(questions::specs::Numbers::number_in, record::specs::Questions::write_shape_of, event::specs::Event::shape_of))]
 fn write_shape(head: u32, value: u32) -> Result<(), Refusal>
     ensures { number_in result ≡ write_shape_of head value }
 {
-    let Ok(kind) = Kind::try_from(event::kind(head)) else {
-        return Err(Refusal::NoSuchKind);
-    };
-    match kind {
+    match event::kind_named(head)? {
         Kind::Chain => Err(Refusal::RetiredKind),
-        _ => event::shape(head, value),
+        kind => kind.ask_unused(event::address(head), value),
     }
 }
 
