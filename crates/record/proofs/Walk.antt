@@ -21,11 +21,19 @@ pub walk_none : (check : ℕ → ℕ → ℕ) (hs vs : List ℕ) (i : ℕ) → l
 unfolding walk_from
 walk_none check hs vs i h = rw (drop_of_length-le hs h)
 
+pub walk-short : (check : ℕ → ℕ → ℕ) (hs vs : List ℕ) (i : ℕ) → length vs ≤ i → walk_from check i (drop i hs) (drop i vs) ≡ no_refusal
+unfolding walk_from
+walk-short check hs vs i h = rw (drop_of_length-le vs h) (go (drop i hs))
+  where
+    go : (l : List ℕ) → walk_from check i l [] ≡ no_refusal
+    go [] = refl
+    go (x ∷ l) = refl
+
 -- At event i, of which q is what the check gives.
-module _ (check : ℕ → ℕ → ℕ) (hs vs : List ℕ) (i q : ℕ) (same : length hs ≡ length vs) (h : i < length hs) (e : q ≡ check (get_or hs i 0) (get_or vs i 0)) where
+module _ (check : ℕ → ℕ → ℕ) (hs vs : List ℕ) (i q : ℕ) (h : i < length hs) (k : i < length vs) (e : q ≡ check (get_or hs i 0) (get_or vs i 0)) where
   walk_here : walk_from check i (drop i hs) (drop i vs) ≡ cond (eqb q 0) (walk_from check (i + 1) (drop (i + 1) hs) (drop (i + 1) vs)) (verdict q i)
   unfolding walk_from
-  walk_here = let k : i < length vs = omega arith in rw (drop-cons hs i 0 h, drop-cons vs i 0 k, e, add-one)
+  walk_here = rw (drop-cons hs i 0 h, drop-cons vs i 0 k, e, add-one)
 
   pub walk-past : q ≡ 0 → walk_from check i (drop i hs) (drop i vs) ≡ walk_from check (i + 1) (drop (i + 1) hs) (drop (i + 1) vs)
   walk-past z = walk_here ∙ rw (eq-eqb q 0 z)
@@ -46,6 +54,9 @@ module _ (bytes : List ℕ) (n : ℕ) (long : length bytes ≡ length_of n) wher
 
   pub in-heads : (i : ℕ) → i < n → i < length (words_from bytes 2 n)
   in-heads i h = rw heads-length h
+
+  pub in-values : (i : ℕ) → i < n → i < length (words_from bytes (2 + n) n)
+  in-values i h = rw values_length h
 
   pub past-heads : (i : ℕ) → n ≤ i → length (words_from bytes 2 n) ≤ i
   past-heads i h = rw heads-length h

@@ -56,6 +56,7 @@ pub struct Sizes {
 #[derive(Clone, Copy, Debug, PartialEq, Eq)]
 pub struct Refused {
     pub refusal: Refusal,
+    // No Option: published, and 01 gives place 0 for the questions that are of no event.
     pub place: usize,
 }
 
@@ -92,7 +93,7 @@ fn walk_bytes(bytes: &[u8], n: usize) -> Result<(), Refused>
     ensures { verdict_in result ≡ walk shape_of (words_from bytes.now 2 n) (words_from bytes.now (2 + n) n) }
 {
     let mut i: usize = 0;
-    // A loop that yields by break, as 01 names it.
+    // 01 names this form: "a loop over events yields by break the refusal number and index", "the walk ends at the first event that fails a check".
     loop {
         if n <= i {
             break Ok(());

@@ -35,8 +35,7 @@ fn put_words(bytes: &mut [u8], k: usize, words: &[u32])
 
 // Stores a record in the first bytes.
 fn put_record(sources: u32, heads: &[u32], values: &[u32], bytes: &mut [u8])
-    requires { (length heads.now < 2 ^ 32) × (length heads.now ≡ length values.now)
-        × (length_of (length heads.now) ≤ length bytes.old) }
+    requires { (length heads.now < 2 ^ 32) × (8 + 4 * (length heads.now + length values.now) ≤ length bytes.old) }
     ensures { bytes.new ≡ filled (record_of sources heads.now values.now) bytes.old }
 {
     let n = heads.len();
@@ -57,15 +56,14 @@ fn write_shape(head: u32, value: u32) -> Result<(), Refusal>
     }
 }
 
-// Questions 6, 27 and 7 of the events in two arrays.
+// Questions 6, 27 and 7 of the events in two arrays, as many as both have.
 fn walk_arrays(heads: &[u32], values: &[u32]) -> Result<(), Refused>
-    requires { length heads.now ≡ length values.now }
     ensures { verdict_in result ≡ walk write_shape_of heads.now values.now }
 {
     let mut i: usize = 0;
-    // A loop that yields by break, as 01 names it.
+    // 01 names this form: "a loop over events yields by break the refusal number and index", "the walk ends at the first event that fails a check".
     loop {
-        if heads.len() <= i {
+        if heads.len() <= i || values.len() <= i {
             break Ok(());
         }
         match write_shape(heads[i], values[i]) {

@@ -9,5 +9,5 @@ returns c =
     let first = second.before.before.before.before in
     let at-start = first.before.before.before.before.before in
     let args = at-start.args in
-    record-stored args.sources args.heads.now args.values.now args.bytes.now at-start.requires.1 at-start.requires.2
+    record-stored args.sources args.heads.now args.values.now args.bytes.now at-start.requires.1
     first.put_word.ensures second.put_word-2.ensures third.put_words.ensures fourth.put_words-2.ensures

@@ -6,7 +6,7 @@ use Rattle.record_writer.proofs.walk_arrays.Given as goal
 
 abbrev pub invariant-loop-i : goal.invariant-loop-i
 invariant-loop-i l =
-    (length l.heads ≡ length l.values) × (l.i ≤ length l.heads) × (walk write_shape_of l.heads l.values ≡ walk_from write_shape_of l.i (drop l.i l.heads) (drop l.i l.values))
+    (l.i ≤ length l.heads) × (walk write_shape_of l.heads l.values ≡ walk_from write_shape_of l.i (drop l.i l.heads) (drop l.i l.values))
 
 abbrev pub decreases-loop-i : goal.decreases-loop-i
 decreases-loop-i l = length l.heads - l.i

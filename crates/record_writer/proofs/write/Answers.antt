@@ -14,7 +14,7 @@ returns-in_err-ask_writing c =
     rw (p.1, p.2) (record { result_value = r.0; bytes_after = r.1 })
 
 pub put_record-requires : goal.put_record-requires
-put_record-requires c = let h = writes c.in_ok-ask_writing.ensures in (search rules, search rules, search rules)
+put_record-requires c = let h = writes c.in_ok-ask_writing.ensures in (search rules, search rules)
 
 pub overflow_add-result : goal.overflow_add-result
 overflow_add-result c = let h = writes c.in_ok-ask_writing.ensures in search rules
