@@ -1,22 +1,18 @@
 -- A text for which so much room is asked.
-use Prim.Native.Nat.{ℕ, ◌≤◌, ◌<◌}
-use mathlib.Core.Path.{◌≡◌, refl}
+use Prim.Native.Nat.{ℕ, ◌≤◌}
+use mathlib.Core.Path.{◌≡◌}
 use mathlib.Core.List.{List}
 use lib.ListN.{length}
-use borrow.Author.Tests.{le-leb, lt-leb}
+use borrow.Author.Tests.{le-leb}
 use Rattle.buffers.specs.Filled.{filled}
 use Rattle.playback.specs.Print.{length_put, put_into}
 
-module _ (room : ℕ) (text out : List ℕ) where
-  pub no_room : length out < room → (0 ≡ length_put room text (length out)) × (out ≡ put_into room text out)
-  no_room h = rw (lt-leb room (length out) h) (refl, refl)
+module _ (room : ℕ) (text out : List ℕ) {d : List ℕ} {r : ℕ} (h : room ≤ length out) where
+  pub with-room : (r ≡ length text) × (d ≡ filled text out) → (r ≡ length_put room text (length out)) × (d ≡ put_into room text out)
+  with-room p = rw (le-leb room (length out) h) p
 
-  module _ {d : List ℕ} {r : ℕ} (h : room ≤ length out) where
-    pub with-room : (r ≡ length text) × (d ≡ filled text out) → (r ≡ length_put room text (length out)) × (d ≡ put_into room text out)
-    with-room p = rw (le-leb room (length out) h) p
-
-    pub had-room : (r ≡ length_put room text (length out)) × (d ≡ put_into room text out) → (r ≡ length text) × (d ≡ filled text out)
-    had-room p = rw (le-leb room (length out) h) at p
+  pub had-room : (r ≡ length_put room text (length out)) × (d ≡ put_into room text out) → (r ≡ length text) × (d ≡ filled text out)
+  had-room p = rw (le-leb room (length out) h) at p
 
 -- The same text, and the same room, by other names.
 pub filled-as : (out : List ℕ) {s t d : List ℕ} {r : ℕ} → s ≡ t → (r ≡ length s) × (d ≡ filled s out) → (r ≡ length t) × (d ≡ filled t out)

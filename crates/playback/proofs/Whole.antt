@@ -28,7 +28,7 @@ use Rattle.record.specs.Record.{most_events}
 use Rattle.playback.specs.Text.{minus}
 use Rattle.playback.specs.Size.{first_line_size, last_line_size, print_room, lines_room}
 use Rattle.playback.specs.Print.{first_line, event_lines, last_line, end_line, refused_line, lines_of, played_lines, KnownKinds, events_given, given_lines, lines_length, lines_into}
-use Rattle.playback.proofs.Room.{no_room, with-room, had-room, filled-as}
+use Rattle.playback.proofs.Room.{had-room, filled-as}
 use Rattle.playback.proofs.Printing.{Each, number-length, known-lines, any-lines, lines-first}
 
 sign-length : (below : Bool) → length (minus below) ≤ 1
@@ -118,15 +118,6 @@ module _ (hs ans rs : List ℕ) {k : ℕ} (e : k ≡ events_given hs ans rs) whe
       let p = least-both (length hs) (least (length ans) (length rs)) in
       let q = least-both (length ans) (length rs) in
       (omega (arith, e, p.0), omega (arith, e, p.1, q.0), omega (arith, e, p.1, q.1))
-
-  module _ (sources : ℕ) (m : Machine) (out : List ℕ) where
-    pub given-not : length out < lines_room k → (0 ≡ lines_length sources hs ans rs m (length out)) × (out ≡ lines_into sources hs ans rs m out)
-    given-not h = no_room (lines_room (events_given hs ans rs)) (given_lines sources hs ans rs m) out (rw e at h)
-
-    pub given-put : {d : List ℕ} {r : ℕ} → lines_room k ≤ length out
-        → (r ≡ length (lines_of sources (take k hs) ans rs m)) × (d ≡ filled (lines_of sources (take k hs) ans rs m) out)
-        → (r ≡ lines_length sources hs ans rs m (length out)) × (d ≡ lines_into sources hs ans rs m out)
-    given-put h p = with-room (lines_room (events_given hs ans rs)) (given_lines sources hs ans rs m) out (rw e at h) (rw e at p)
 
 -- The lines of a list that was played whole, into a buffer with room for them.
 pub played-given : (sources : ℕ) (hs vs answers₀ refusals₀ out : List ℕ) {p : Played} {answers refusals d : List ℕ} {r : ℕ}

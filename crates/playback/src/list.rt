@@ -25,6 +25,7 @@ pub(crate) const LAST_LINE_SIZE: usize = 86;
 pub const LINES_SIZE: usize = FIRST_LINE_SIZE + MOST_EVENTS * ANY_LINE_SIZE + LAST_LINE_SIZE;
 
 // The sign of a number: a minus below 0, else nothing.
+#[tactic(auto, unfolding(digits::specs::Ascii::ascii))]
 fn sign(z: i32) -> &'static [u8]
     ensures { result.now ≡ minus (lt_z z (pos 0)) }
 {
@@ -56,6 +57,7 @@ pub(crate) fn put_lines(
             Byte(b'\n'),
         ],
     );
+    // By the index of the head: a chain of three arrays with their index would be no plainer.
     for (i, head) in heads.iter().enumerate() {
         at = put_pieces(
             out,
@@ -94,15 +96,15 @@ pub(crate) fn put_lines(
 fn has_room(k: usize, space: usize) -> bool
     ensures { result ≡ leb (lines_room k) space }
 {
-    if space < FIRST_LINE_SIZE + LAST_LINE_SIZE {
-        return false;
-    }
-    k <= (space - FIRST_LINE_SIZE - LAST_LINE_SIZE) / ANY_LINE_SIZE
+    space
+        .checked_sub(FIRST_LINE_SIZE + LAST_LINE_SIZE)
+        .is_some_and(|rest| k <= rest / ANY_LINE_SIZE)
 }
 
 // Prints the lines of a list that was played into a buffer of any length, for as many events as heads, answers and refusals all have: the lines fill its first
 // bytes, and the answer is how many. With less room than the lines of any so many events may need it stays as it was, and the answer is 0.
-// No Option, here and in the prints above it: 0 is what C is promised where there is no room.
+// No Option, here and in print_refused and print_into: 0 is what the published calls answer where there is no room (`length_put`), and what C is promised.
+// Answers beside refusals: lent arrays are of numbers.
 pub fn print_lines(
     sources: u32,
     heads: &[u32],
@@ -122,6 +124,7 @@ pub fn print_lines(
 }
 
 // Prints the line of a record that is refused into a buffer of any length, as print_lines does; the room of a first line is enough.
+// Of any two numbers, as the published call is.
 pub fn print_refused(refusal: u8, place: usize, out: &mut [u8]) -> usize
     ensures value { result ≡ refused_length refusal place (length out.old) }
     ensures out_after { out.new ≡ refused_into refusal place out.old }

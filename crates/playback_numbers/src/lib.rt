@@ -38,6 +38,7 @@ fn accepted(sources: u8, events: u16, m: Machine) -> Numbers
 }
 
 // Reads a record into heads and values, whose places serve for those of answers and refusals, and plays it.
+// Heads beside values, answers beside refusals: lent arrays are of numbers, and C, `read` and `play` take them apart.
 fn play_into(
     record: &[u8],
     heads: &mut [u32],
@@ -68,6 +69,7 @@ pub fn play(record: &[u8], answers: &mut [u32], refusals: &mut [u8]) -> Result<N
     ensures answers_after { answers.new ≡ answers_left «record».now answers.old refusals.old }
     ensures refusals_after { refusals.new ≡ refusals_left «record».now answers.old refusals.old }
 {
+    // Fixed arrays: there is no heap, and `read` and `play` take slices of numbers.
     let mut heads: [u32; MOST_EVENTS] = [0; MOST_EVENTS];
     let mut values: [u32; MOST_EVENTS] = [0; MOST_EVENTS];
     let h = places(answers.len());

@@ -1,4 +1,5 @@
 // The record player as two calls for programs in C and Rust: as text, and as numbers.
+// Lengths, refusals and places as numbers, arrays beside one another, and seven numbers for a struct: C is promised these.
 #![tactic(auto)]
 
 ghost use Rattle.std.specs.Prelude.{◌≡◌, length};

@@ -6,14 +6,10 @@ use Rattle.digits.specs.Ascii.{ascii}
 use Rattle.digits.proofs.Pieces.{each-as}
 use Rattle.playback.specs.Size.{first_line_size}
 use Rattle.playback.specs.Print.{refused_line}
-use Rattle.playback.proofs.Room.{no_room, with-room}
+use Rattle.playback.proofs.Room.{with-room}
 use Rattle.playback.proofs.Rows.{two_texts}
 use Rattle.playback.proofs.Whole.{refused-length, at-start}
 use Rattle.playback.proofs.list.print_refused.Goals as goal
-
-pub returns-then-out-lt-FIRST_LINE_SIZE : goal.returns-then-out-lt-FIRST_LINE_SIZE
-returns-then-out-lt-FIRST_LINE_SIZE c =
-    let r = no_room first_line_size (refused_line c.args.refusal c.args.place) c.args.out.now (omega (arith, c.if-out-lt-FIRST_LINE_SIZE.true)) in record { value = r.0; out_after = r.1 }
 
 pub returns : goal.returns
 unfolding ascii
