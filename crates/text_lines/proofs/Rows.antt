@@ -80,12 +80,16 @@ module _ (line : List ℕ) where
       go true = let l : length line - 1 ≤ length line = omega arith in rw (length-take-le (length line - 1) line l) (refl, l)
       go false = (take-length line, omega arith)
 
--- What a line says.
-pub said-there : (line cut : List ℕ) (to : ℕ) → cut ≡ without_return line → to ≡ length (before comment_sign cut) → to ≤ length cut
-    → (to ≡ length (said_in line)) × (take to line ≡ said_in line) × (to ≤ length line)
-unfolding said_in
-said-there line cut to e et few =
-    let whole = return-cut line in
-    let et' : to ≡ length (before comment_sign (without_return line)) = rw e at et in
-    let short : to ≤ length (without_return line) = rw e at few in
-    (et', sym (take-take to (length (without_return line)) line short) ∙ ap (take to) whole.0 ∙ up_to comment_sign (without_return line) et', omega (arith, whole.1))
+-- What a line says: what is left of it up to the comment, and that this is the line's front.
+module _ (line : List ℕ) {cut : List ℕ} {to : ℕ} (e : cut ≡ without_return line) (et : to ≡ length (before comment_sign cut)) where
+  pub said_there : take to cut ≡ said_in line
+  unfolding said_in
+  said_there = up_to comment_sign cut et ∙ ap (before comment_sign) e
+
+  pub said_front : to ≤ length cut → take (length (take to cut)) line ≡ said_in line
+  said_front few =
+      let whole : take (length cut) line ≡ cut = rw e (return-cut line).0 in
+      rw (length-take-le to cut few) (sym (take-take to (length cut) line few) ∙ ap (take to) whole ∙ said_there)
+
+  pub said_shorter : to ≤ length cut → length (take to cut) ≤ length line
+  said_shorter few = omega (arith, length-take-le to cut few, (return-cut line).1, ap length e)

@@ -97,13 +97,15 @@ fn unreturned(line: &[u8]) -> &[u8]
     line.strip_suffix(b"\r").unwrap_or(line)
 }
 
-// The length of what a line says.
-pub fn said_in(line: &[u8]) -> usize
-    ensures value { result ≡ length (said_in line.now) }
-    ensures line_value { take result line.now ≡ said_in line.now }
-    ensures upper_bound { result ≤ length line.now }
+// What a line says.
+#[tactic(auto, using(crate::proofs::Rows::said_there, crate::proofs::Rows::said_front, crate::proofs::Rows::said_shorter))]
+pub fn said_in(line: &[u8]) -> &[u8]
+    ensures value { result.now ≡ said_in line.now }
+    ensures line_value { take (length result.now) line.now ≡ said_in line.now }
+    ensures upper_bound { length result.now ≤ length line.now }
 {
-    find(unreturned(line), b'#')
+    let line = unreturned(line);
+    &line[..find(line, b'#')]
 }
 
 // Whether what a line says is not all blank.
