@@ -13,7 +13,7 @@ use denote.Bor.{Bor}
 use lib.ListN.{length, get_or, take, drop, drop_of_length-le}
 use lib.Seq.{drop-cons, take-take, take-length, length-take-le}
 use Rattle.text_lines.specs.Lines.{before}
-use Rattle.text_lines.specs.Rows.{carriage_return, last_of, without_return, comment_sign, said_in, is_blank, without_lead, kept_of, trimmed}
+use Rattle.text_lines.specs.Rows.{carriage_return, last_of, without_return, comment_sign, said_in, is_blank, without_lead, kept_of}
 use Rattle.text_lines.proofs.Marks.{up_to}
 
 -- The blanks at the start: only blanks stand before a place, and none at it, where it is within the text.
@@ -40,11 +40,6 @@ last-no_blank text (suc m) n inside blanks here = by-case (leb n m) refl (λ l. 
         let l : n ≡ suc m = omega (arith, leb-false n m e) in
         let one : n - 1 ≡ m = omega arith in
         rw (rw one at (here (omega arith))) l
-
--- A part without the blanks around it.
-pub trimmed-there : (part : List ℕ) {rest : List ℕ} {to : ℕ} → rest ≡ without_lead part → to ≡ kept_of rest (length rest) → take to rest ≡ trimmed part
-unfolding trimmed
-trimmed-there part er et = rw (et, er)
 
 and-true-right : (b : Bool) → b && true ≡ b
 and-true-right true = refl

@@ -1,12 +1,13 @@
 // The lines of a text: what a line says, and the numbers in it.
 #![tactic(auto)]
 
-ghost use Rattle.std.specs.Prelude.{◌≡◌, ◌≤◌, length, take, drop, ltb};
+ghost use Rattle.std.specs.Prelude.{◌≡◌, ◌≤◌, length, take, ltb};
 ghost use Rattle.text_lines.specs.Lines.{before};
 ghost use Rattle.text_lines.specs.Rows.{without_return, said_in, is_blank, without_lead, kept_of, trimmed};
 ghost use Rattle.text_lines.specs.Numbers.{found_by, number_in};
 
 // The number that the text is, in a base, in at most so many digits.
+// That the base is 2 or more is asked by `to_digit`; both callers give 10 or 16.
 fn number_in(text: &[u8], base: u32, most: usize) -> Option<u32>
     requires { (2 ≤ base) × (base ≤ 16) × (most ≤ 8) }
     ensures { found_by result ≡ number_in base most text.now }
@@ -40,33 +41,33 @@ fn is_blank(byte: u8) -> bool
     matches!(byte, b' ' | b'\t')
 }
 
-// How many blanks stand at the start.
-fn lead(text: &[u8]) -> usize
-    ensures text_value { drop result text.now ≡ without_lead text.now }
-    ensures upper_bound { result ≤ length text.now }
+// A text without the blanks at its start.
+fn without_lead(text: &[u8]) -> &[u8]
+    ensures { result.now ≡ without_lead text.now }
 {
-    text.iter()
+    let blanks = text
+        .iter()
         .position(|byte| !is_blank(*byte))
-        .unwrap_or(text.len())
+        .unwrap_or(text.len());
+    &text[blanks..]
 }
 
-// How many bytes are left without the blanks at the end.
-fn kept(text: &[u8]) -> usize
-    ensures value { result ≡ kept_of text.now (length text.now) }
-    ensures upper_bound { result ≤ length text.now }
+// A text without the blanks at its end.
+fn without_end(text: &[u8]) -> &[u8]
+    ensures { result.now ≡ take (kept_of text.now (length text.now)) text.now }
 {
     match text.iter().rposition(|byte| !is_blank(*byte)) {
-        Some(last) => last + 1,
-        None => 0,
+        Some(last) => &text[..=last],
+        None => &[],
     }
 }
 
 // A part of a line without the blanks around it.
+#[tactic(auto, unfolding(crate::specs::Rows::trimmed))]
 fn trimmed(part: &[u8]) -> &[u8]
     ensures { result.now ≡ trimmed part.now }
 {
-    let rest = &part[lead(part)..];
-    &rest[..kept(rest)]
+    without_end(without_lead(part))
 }
 
 // The length of a part of a line without the blanks around it.
@@ -112,5 +113,5 @@ pub fn said_in(line: &[u8]) -> &[u8]
 pub fn says_any(said: &[u8]) -> bool
     ensures { result ≡ ltb 0 (length (without_lead said.now)) }
 {
-    lead(said) < said.len()
+    !without_lead(said).is_empty()
 }
