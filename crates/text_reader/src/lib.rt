@@ -117,7 +117,7 @@ fn next_row(text: &[u8], line: usize) -> Result<Row<'_>, usize>
     // From line to line by what is left of the text; the number is what the caller needs.
     while !rest.is_empty() {
         let (line, after) = split(rest, b'\n');
-        let said = &line[..said_in(line)];
+        let said = said_in(line);
         if says_any(said) {
             return Ok(Row {
                 number,

@@ -19,7 +19,7 @@ pub returns-then-says_any : goal.returns-then-says_any
 returns-then-says_any c =
     let inv = c.loop-rest.invariant in
     let less = shorter (goal.at.returns-then-says_any c).After-split in (
-      row-found c.loop-rest.rest.now less.0 c.split.ensures.before c.split.ensures.after c.loop-rest.number c.said_in.ensures.line_value c.says_any.ensures c.if-says_any.true inv.rows,
+      row-found c.loop-rest.rest.now less.0 c.split.ensures.before c.split.ensures.after c.loop-rest.number c.said_in-said.ensures.value c.says_any.ensures c.if-says_any.true inv.rows,
       omega (arith, less.1),
       omega (arith, less.1),
     )
@@ -35,7 +35,7 @@ loop-rest-preserved c =
       few = inv.few;
       within = omega (arith, less.1);
       shorter = omega (arith, less.1);
-      rows = row-past c.loop-rest.rest.now less.0 c.split.ensures.before c.split.ensures.after c.loop-rest.number c.said_in.ensures.line_value c.says_any.ensures c.if-says_any.false inv.rows;
+      rows = row-past c.loop-rest.rest.now less.0 c.split.ensures.before c.split.ensures.after c.loop-rest.number c.said_in-said.ensures.value c.says_any.ensures c.if-says_any.false inv.rows;
       lines = one_line-more c.loop-rest.rest.now less.0 c.split.ensures.before c.split.ensures.after c.loop-rest.number inv.lines;
     }
 
