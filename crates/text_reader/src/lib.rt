@@ -35,6 +35,7 @@ impl From<Why> for u8 {
 }
 
 // What is wrong with a text, and its line, from 1: 0 where there are too many bytes.
+// No Option: the rule `too_long` of the published call has that 0.
 #[derive(Clone, Copy, Debug, PartialEq, Eq)]
 pub struct Fault {
     pub why: Why,
@@ -132,15 +133,15 @@ fn next_row(text: &[u8], line: usize) -> Result<Row<'_>, usize>
 }
 
 // Stores the heads and values of the rows of events, and the numbers of their lines, up to the first row that is bad, and answers how many there are.
+// No Vec, and no array of events: memory is fixed, and the writer takes the heads and the values as two slices.
 fn read_events(
     text: &[u8],
     line: usize,
-    heads: &mut [u32],
-    values: &mut [u32],
-    numbers: &mut [usize],
+    heads: &mut [u32; MOST_EVENTS],
+    values: &mut [u32; MOST_EVENTS],
+    numbers: &mut [usize; MOST_EVENTS],
 ) -> Result<usize, Fault>
-    requires { (line + length text.now ≤ text_size + 1)
-        × (most_events ≤ length heads.old) × (most_events ≤ length values.old) × (most_events ≤ length numbers.old) }
+    requires { line + length text.now ≤ text_size + 1 }
     ensures fault_value { fault_by result ≡ events_fault 0 (rows_from line (lines_in text.now)) }
     ensures events { IfOk result (λ n. (n ≤ most_events)
         × (take n heads.new ≡ map head_in (rows_from line (lines_in text.now)))
@@ -171,13 +172,13 @@ fn read_events(
 }
 
 // Reads a text: its first fault; else N, its line, and the heads and values with their lines, which fill the first places.
+// Three arrays, as in `read_events`.
 fn read_text(
     text: &[u8],
-    heads: &mut [u32],
-    values: &mut [u32],
-    numbers: &mut [usize],
+    heads: &mut [u32; MOST_EVENTS],
+    values: &mut [u32; MOST_EVENTS],
+    numbers: &mut [usize; MOST_EVENTS],
 ) -> Result<Listing, Fault>
-    requires { (most_events ≤ length heads.old) × (most_events ≤ length values.old) × (most_events ≤ length numbers.old) }
     ensures fault_value { fault_by result ≡ text_fault text.now }
     ensures listing { IfOk result (λ read. (read.events ≤ most_events)
         × (read.sources ≡ sources_of_text text.now)
@@ -227,6 +228,7 @@ pub fn to_record(text: &[u8], bytes: &mut [u8; RECORD_SIZE]) -> Result<usize, No
     ensures bytes_after { bytes.new ≡ to_record_bytes text.now bytes.old }
     ensures result_in_bounds { record_length result ≤ length bytes.new }
 {
+    // Three arrays, as in `read_events`.
     let mut heads: [u32; MOST_EVENTS] = [0; MOST_EVENTS];
     let mut values: [u32; MOST_EVENTS] = [0; MOST_EVENTS];
     let mut numbers: [usize; MOST_EVENTS] = [0; MOST_EVENTS];

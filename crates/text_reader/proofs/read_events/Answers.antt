@@ -3,7 +3,7 @@ use native.Mathlib.Omega.{arith}
 use mathlib.Core.List.{map}
 use lib.ListN.{take}
 use lib.Seq.{take-length}
-use Rattle.std.proofs.Common.{Ok, Err, ◌<◌, length-set}
+use Rattle.std.proofs.Common.{Ok, Err, ◌<◌}
 use Rattle.record.specs.Record.{most_events}
 use Rattle.std.proofs.lemmas.Grind.{common_steps}
 use Rattle.text_reader.specs.Answers.{bad, event_by, why_number}
@@ -43,9 +43,6 @@ loop-row-preserved c =
       heads = stored-turn rows n row inv.later c.in-Ok.ensures.0 head_in _ _ g.1 (omega arith) inv.heads;
       values = stored-turn rows n row inv.later c.in-Ok.ensures.0 value_in _ _ g.2 (omega arith) inv.values;
       numbers = stored-turn rows n row inv.later c.in-Ok.ensures.0 (λ (r : Row). r.number) _ _ refl (omega arith) inv.numbers;
-      heads_room = simp length-set inv.heads_room;
-      values_room = simp length-set inv.values_room;
-      numbers_room = simp length-set inv.numbers_room;
     }
 
 pub returns-clause-fault_value : goal.returns-clause-fault_value

@@ -18,9 +18,6 @@ invariant-loop-row l = record {
   heads : take l.n l.heads ≡ map head_in (take l.n (rows_from l.line (lines_in l.text)));
   values : take l.n l.values ≡ map value_in (take l.n (rows_from l.line (lines_in l.text)));
   numbers : take l.n l.numbers ≡ numbers_of (take l.n (rows_from l.line (lines_in l.text)));
-  heads_room : most_events ≤ length l.heads;
-  values_room : most_events ≤ length l.values;
-  numbers_room : most_events ≤ length l.numbers;
 }
 
 abbrev pub decreases-loop-row : goal.decreases-loop-row

@@ -13,7 +13,7 @@ use Rattle.text_reader.proofs.to_record.Goals.{In_ok-listing}
 fits : (c : In_ok-listing) → (c.in_ok-listing.listing.events ≤ length c.read_text.new.heads) × (c.in_ok-listing.listing.events ≤ length c.read_text.new.numbers)
 fits c =
     let few = c.in_ok-listing.ensures.listing.0 in
-    (omega (arith, c.read_text.auto.heads, few), omega (arith, c.read_text.auto.numbers, few))
+    (omega (arith, few), omega (arith, few))
 
 pub line_of-requires : goal.line_of-requires
 line_of-requires c six =
