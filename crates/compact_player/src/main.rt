@@ -13,13 +13,12 @@ fn show(rt: &HostRuntime, record: &[u8]) {
 }
 
 fn main(rt: HostRuntime) {
-    let mut record: [u8; INPUT_SIZE] = [0; INPUT_SIZE];
-    let Some(length) = console::read_input(
+    let mut buffer: [u8; INPUT_SIZE] = [0; INPUT_SIZE];
+    if let Some(record) = console::read_input(
         &rt,
-        &mut record,
+        &mut buffer,
         b"usage: compact_player [FILE]\nplays the record in FILE, or on standard input, with N up to 63 and 500 events, and prints it\n",
-    ) else {
-        return;
-    };
-    show(&rt, &record[..length]);
+    ) {
+        show(&rt, record);
+    }
 }

@@ -1,9 +1,8 @@
 // What a program reads, whole: the file that its one argument names, or standard input; and what it writes to standard output and standard error.
-// Which bytes the system gives and takes is outside any contract: these say that the count of bytes read lies within the buffer.
+// Which bytes the system gives and takes is outside any contract: these say that no more are read than the buffer has.
 #![tactic(auto)]
 
-ghost use Rattle.std.specs.Prelude.{◌≡◌, ◌<◌, ◌≢◌, ◌↔◌, IsTrue, IfOk, IfSome, length, take, slice_index};
-ghost use Rattle.console.specs.Counts.{IsPrefixLen};
+ghost use Rattle.std.specs.Prelude.{◌≤◌, ◌<◌, ◌≢◌, ◌↔◌, IsTrue, IfOk, IfSome, length, slice_index};
 ghost use Rattle.std.specs.Io.{StartsWith};
 ghost use Rattle.std.specs.Io.KnownBytes.{Consumes, IsAtEnd};
 
@@ -18,22 +17,22 @@ const NAME_SIZE: usize = 4096;
 // The buffer for the words of an error.
 const WORDS_SIZE: usize = 256;
 
-// Reads until the input ends or the buffer is full, also from a pipe that gives a few bytes at a time, and answers how many bytes stand at its start.
-fn read_all<R: Read>(file: &mut R, buffer: &mut [u8]) -> io::Result<usize>
-    ensures within { IfOk result (λ n. IsPrefixLen n buffer.new) }
-    ensures bytes { IfOk result (λ n. Consumes (R.remaining file.old) (R.remaining file.new) (take n buffer.new)) }
-    ensures end { IfOk result (λ n. n < length buffer.new → IsAtEnd (R.remaining file.new)) }
+// Reads until the input ends or the buffer is full, also from a pipe that gives a few bytes at a time, and answers the bytes that were read.
+fn read_all<'a, R: Read>(file: &mut R, buffer: &'a mut [u8]) -> io::Result<&'a [u8]>
+    ensures within { IfOk result (λ read. length read.now ≤ length buffer.old) }
+    ensures bytes { IfOk result (λ read. Consumes (R.remaining file.old) (R.remaining file.new) read.now) }
+    ensures end { IfOk result (λ read. length read.now < length buffer.old → IsAtEnd (R.remaining file.new)) }
 {
     let mut at: usize = 0;
     // It goes on by as many bytes as a read gave.
     while at < buffer.len() {
         let some = file.read(&mut buffer[at..])?;
         if some == 0 {
-            return Ok(at);
+            break;
         }
         at += some;
     }
-    Ok(at)
+    Ok(&buffer[..at])
 }
 
 // Writes the bytes to standard error.
@@ -85,8 +84,8 @@ fn say_refused(rt: &HostRuntime, name: &[u8], error: io::Error) {
 }
 
 // Reads standard input, and says so where it cannot be read.
-fn read_standard(rt: &HostRuntime, buffer: &mut [u8]) -> Option<usize>
-    ensures within { IfSome result (λ n. IsPrefixLen n buffer.new) }
+fn read_standard<'a>(rt: &HostRuntime, buffer: &'a mut [u8]) -> Option<&'a [u8]>
+    ensures within { IfSome result (λ read. length read.now ≤ length buffer.old) }
 {
     let input = read_all(&mut rt.stdin(), buffer);
     if input.is_err() {
@@ -97,8 +96,8 @@ fn read_standard(rt: &HostRuntime, buffer: &mut [u8]) -> Option<usize>
 
 // Reads the file, and closes it before anything is written, so that nothing reaches it even where a closed standard output or standard error left it
 // that number.
-fn read_open(mut file: File, buffer: &mut [u8]) -> io::Result<usize>
-    ensures within { IfOk result (λ n. IsPrefixLen n buffer.new) }
+fn read_open<'a>(mut file: File, buffer: &'a mut [u8]) -> io::Result<&'a [u8]>
+    ensures within { IfOk result (λ read. length read.now ≤ length buffer.old) }
 {
     let input = read_all(&mut file, buffer);
     drop(file);
@@ -106,8 +105,8 @@ fn read_open(mut file: File, buffer: &mut [u8]) -> io::Result<usize>
 }
 
 // Reads the file of this name, and says so where it cannot be opened or read. It is opened for reading alone.
-fn read_file(rt: &HostRuntime, name: &str, buffer: &mut [u8]) -> Option<usize>
-    ensures within { IfSome result (λ n. IsPrefixLen n buffer.new) }
+fn read_file<'a>(rt: &HostRuntime, name: &str, buffer: &'a mut [u8]) -> Option<&'a [u8]>
+    ensures within { IfSome result (λ read. length read.now ≤ length buffer.old) }
 {
     match File::open(rt, name) {
         Ok(file) => {
@@ -125,8 +124,8 @@ fn read_file(rt: &HostRuntime, name: &str, buffer: &mut [u8]) -> Option<usize>
 }
 
 // Reads the file of this name. std opens no file whose name is no text.
-fn read_named(rt: &HostRuntime, name: &[u8], buffer: &mut [u8]) -> Option<usize>
-    ensures within { IfSome result (λ n. IsPrefixLen n buffer.new) }
+fn read_named<'a>(rt: &HostRuntime, name: &[u8], buffer: &'a mut [u8]) -> Option<&'a [u8]>
+    ensures within { IfSome result (λ read. length read.now ≤ length buffer.old) }
 {
     let Ok(text) = std::str::from_utf8(name) else {
         say_unopened(rt, name, b"the name is not UTF-8");
@@ -143,8 +142,8 @@ fn is_name(argument: &[u8]) -> bool
 }
 
 // Reads the file that the first argument names. Where it names none, the usage is said. One that is longer than any name is not handed out whole.
-fn read_argument(rt: &HostRuntime, buffer: &mut [u8], usage: &[u8]) -> Option<usize>
-    ensures within { IfSome result (λ n. IsPrefixLen n buffer.new) }
+fn read_argument<'a>(rt: &HostRuntime, buffer: &'a mut [u8], usage: &[u8]) -> Option<&'a [u8]>
+    ensures within { IfSome result (λ read. length read.now ≤ length buffer.old) }
 {
     let mut name = [0u8; NAME_SIZE];
     let Ok(length) = rt.arg(1, &mut name) else {
@@ -163,11 +162,11 @@ fn has_argument(rt: &impl Env, place: usize) -> bool {
     !matches!(rt.arg(place, &mut []), Err(FillError::NotPresent))
 }
 
-// Reads standard input where the program has no argument, or the file that its one argument names, and answers how many bytes stand at the start of the
-// buffer. Where that fails, it is said on standard error, and nothing is left to be done.
+// Reads standard input where the program has no argument, or the file that its one argument names, and answers the bytes, which stand at the start of
+// the buffer. Where that fails, it is said on standard error, and nothing is left to be done.
 // Each program takes its own step then: a function that is lent the step would require that it may be called, and no published call has a precondition.
-pub fn read_input(rt: &HostRuntime, buffer: &mut [u8], usage: &[u8]) -> Option<usize>
-    ensures within { IfSome result (λ n. IsPrefixLen n buffer.new) }
+pub fn read_input<'a>(rt: &HostRuntime, buffer: &'a mut [u8], usage: &[u8]) -> Option<&'a [u8]>
+    ensures within { IfSome result (λ read. length read.now ≤ length buffer.old) }
 {
     if has_argument(rt, 2) {
         say(rt, usage);
@@ -222,7 +221,7 @@ mod tests {
             let mut buffer = [0u8; 4];
             let input = read_all(&mut Trickle { left, fails }, &mut buffer);
             assert_eq!(rt; input.is_err(), failed, "of {left}");
-            assert_eq!(rt; input.unwrap_or(0), length, "of {left}");
+            assert_eq!(rt; input.map_or(0, |read| read.len()), length, "of {left}");
         }
     }
 }

@@ -15,13 +15,12 @@ fn show(rt: &HostRuntime, record: &[u8]) {
 }
 
 fn main(rt: HostRuntime) {
-    let mut record: [u8; INPUT_SIZE] = [0; INPUT_SIZE];
-    let Some(length) = console::read_input(
+    let mut buffer: [u8; INPUT_SIZE] = [0; INPUT_SIZE];
+    if let Some(record) = console::read_input(
         &rt,
-        &mut record,
+        &mut buffer,
         b"usage: lent_player [FILE]\nplays the record in FILE, or on standard input, on a lent machine, and prints it\n",
-    ) else {
-        return;
-    };
-    show(&rt, &record[..length]);
+    ) {
+        show(&rt, record);
+    }
 }

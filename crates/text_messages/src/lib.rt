@@ -29,6 +29,7 @@ fn why_words(why: u8) -> &'static [u8]
 }
 
 // Says why a text is bad, and in which line: the message fills the first bytes, and the answer is how many.
+// Numbers, not a fault: published, it says something of any number.
 pub fn bad_text(why: u8, line: usize, out: &mut [u8; MESSAGE_SIZE]) -> usize
     ensures value { result ≡ length (bad_text why line) }
     ensures out_after { out.new ≡ filled (bad_text why line) out.old }
@@ -51,6 +52,7 @@ pub fn bad_text(why: u8, line: usize, out: &mut [u8; MESSAGE_SIZE]) -> usize
 }
 
 // Puts a refusal and its place, what is said of the line, and the words.
+// Both are the numbers that the published calls are given.
 fn put_refusal(refusal: u8, place: usize, line: &[Piece<'_>], out: &mut [u8]) -> usize
     requires { length (refused_with refusal place (joined (texts_of line.now))) ≤ length out.old }
     ensures value { result ≡ length (refused_with refusal place (joined (texts_of line.now))) }
@@ -72,6 +74,7 @@ fn put_refusal(refusal: u8, place: usize, line: &[Piece<'_>], out: &mut [u8]) ->
 }
 
 // Says why a record is refused, and at which place.
+// Numbers, not what is refused: published, it says something of any number.
 pub fn refused(refusal: u8, place: usize, out: &mut [u8; MESSAGE_SIZE]) -> usize
     ensures value { result ≡ length (refused_message refusal place) }
     ensures out_after { out.new ≡ filled (refused_message refusal place) out.old }
@@ -81,6 +84,7 @@ pub fn refused(refusal: u8, place: usize, out: &mut [u8; MESSAGE_SIZE]) -> usize
 }
 
 // Says why the record of a text is refused, at which place, and in which line of the text.
+// Numbers, as in `refused`.
 pub fn refused_in(refusal: u8, place: usize, line: usize, out: &mut [u8; MESSAGE_SIZE]) -> usize
     ensures value { result ≡ length (refused_in refusal place line) }
     ensures out_after { out.new ≡ filled (refused_in refusal place line) out.old }

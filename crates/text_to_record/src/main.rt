@@ -5,23 +5,21 @@ ghost use Rattle.std.specs.Prelude.{◌≡◌, ◌+◌, length};
 ghost use Rattle.text_reader.specs.Reading.{text_size};
 
 use record::RECORD_SIZE;
-use text_messages::MESSAGE_SIZE;
+use text_messages::{MESSAGE_SIZE, bad_text, refused_in};
 use text_reader::{NotRecord, TEXT_SIZE};
 
 // One byte more than the longest text, so that longer input is refused, as all of it would be.
 const INPUT_SIZE: usize = TEXT_SIZE + 1;
 
-// Says why the text is bad, and in which line.
-fn say_bad(rt: &HostRuntime, why: u8, line: usize) {
+// Says why no record is made of the text, and in which line.
+fn say_refused(rt: &HostRuntime, why: NotRecord) {
     let mut message: [u8; MESSAGE_SIZE] = [0; MESSAGE_SIZE];
-    let length = text_messages::bad_text(why, line, &mut message);
-    console::say(rt, &message[..length]);
-}
-
-// Says why the record of the text is refused, at which place, and in which line.
-fn say_refused(rt: &HostRuntime, refusal: u8, place: usize, line: usize) {
-    let mut message: [u8; MESSAGE_SIZE] = [0; MESSAGE_SIZE];
-    let length = text_messages::refused_in(refusal, place, line, &mut message);
+    let length = match why {
+        NotRecord::BadText(fault) => bad_text(fault.why.into(), fault.line, &mut message),
+        NotRecord::Refused { refused, line } => {
+            refused_in(refused.refusal.into(), refused.place, line, &mut message)
+        }
+    };
     console::say(rt, &message[..length]);
 }
 
@@ -29,10 +27,7 @@ fn convert(rt: &HostRuntime, text: &[u8]) {
     let mut bytes: [u8; RECORD_SIZE] = [0; RECORD_SIZE];
     match text_reader::to_record(text, &mut bytes) {
         Ok(length) => console::write_out(rt, &bytes[..length]),
-        Err(NotRecord::BadText(fault)) => say_bad(rt, fault.why.into(), fault.line),
-        Err(NotRecord::Refused { refused, line }) => {
-            say_refused(rt, refused.refusal.into(), refused.place, line)
-        }
+        Err(why) => say_refused(rt, why),
     }
 }
 
@@ -44,13 +39,12 @@ fn buffer() -> [u8; INPUT_SIZE]
 }
 
 fn main(rt: HostRuntime) {
-    let mut text = buffer();
-    let Some(length) = console::read_input(
+    let mut buffer = buffer();
+    if let Some(text) = console::read_input(
         &rt,
-        &mut text,
+        &mut buffer,
         b"usage: text_to_record [FILE]\nmakes a record of the text in FILE, or on standard input\n",
-    ) else {
-        return;
-    };
-    convert(&rt, &text[..length]);
+    ) {
+        convert(&rt, text);
+    }
 }

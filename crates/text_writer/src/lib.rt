@@ -39,6 +39,7 @@ pub fn to_text(bytes: &[u8], text: &mut [u8; LISTING_SIZE]) -> Result<usize, Ref
     ensures result_in_bounds { text_length result ≤ length text.new }
     ensures comes_back { ComesBack bytes.now (take (text_length result) text.new) }
 {
+    // Two arrays, and how many are used: memory is fixed, and `record::read` takes two slices.
     let mut heads: [u32; MOST_EVENTS] = [0; MOST_EVENTS];
     let mut values: [u32; MOST_EVENTS] = [0; MOST_EVENTS];
     let sizes = record::read(bytes, &mut heads, &mut values)?;
