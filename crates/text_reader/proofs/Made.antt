@@ -6,8 +6,8 @@ use native.Mathlib.Omega.{arith}
 use mathlib.Core.List.{List, [], ◌∷◌}
 use borrow.Author.Tests.{le-leb, lt-leb, ne_eqb, ltb-true, ltb-false}
 use lib.Dec.{ltb}
-use lib.ListN.{length, get_or, take, drop}
-use lib.Seq.{get_or-take, get_or-drop}
+use lib.ListN.{length, get_or, drop, length-drop, length-map}
+use lib.Seq.{get_or-drop}
 use Rattle.std.specs.Prelude.{Result, Err}
 use Rattle.questions.specs.Numbers.{number_of}
 use Rattle.record.specs.declared.Refused.{Refused}
@@ -19,7 +19,7 @@ use Rattle.record.proofs.Questions.{write-place}
 use Rattle.text_lines.specs.Lines.{lines_in}
 use Rattle.text_lines.specs.Numbers.{Number, number_in}
 use Rattle.text_lines.specs.Rows.{trimmed, Row, rows_of}
-use Rattle.text_reader.specs.Reading.{Fault, no_fault, not_sources, too_long, text_size, events_fault, rows_fault, text_fault, sources_of_text, heads_of_text, values_of_text, numbers_of}
+use Rattle.text_reader.specs.Reading.{Fault, no_fault, not_sources, too_long, text_size, head_in, events_fault, rows_fault, text_fault, sources_of_text, heads_of_text, values_of_text, numbers_of}
 use Rattle.text_reader.specs.Answers.{written, row_of_place, line_of, to_record_answer, to_record_bytes}
 use Rattle.text_lines.proofs.Digits.{found_ok}
 
@@ -61,19 +61,21 @@ module _ (text bytes : List ℕ) (e : no_fault ≡ text_fault text) (long : leng
   made : (written (write_numbers r) (line_of text (write_numbers r)) ≡ to_record_answer text record_size) × (d ≡ to_record_bytes text bytes)
   made = rw (← e, ← es, ← eh, ← ev, ← long) (ap (λ (a : Answer). written a (line_of text a)) er, ed)
 
-  -- The place of a question about an event is that of one.
-  pub place-there : {x : Refused} → r ≡ Err x → 6 ≤ number_of x.refusal → x.place < length hs
-  place-there q six =
+  -- The place of a question about an event has a line.
+  pub place-there : {numbers : List ℕ} {x : Refused} → numbers ≡ drop 1 (numbers_of (rows_of text)) → r ≡ Err x → 6 ≤ number_of x.refusal → x.place < length numbers
+  place-there eb q six =
       let no = write-not sources hs vs (length bytes) er q in
       let h : 6 ≤ (write_verdict sources hs vs (length bytes)).refusal = rw no.1 at six in
-      rw no.2 (write-place sources hs vs (length bytes) h)
+      let inside = write-place sources hs vs (length bytes) h in
+      let rows = rows_of text in
+      rw (no.2, eb)
+      (omega (arith, inside, ap length eh, length-map (drop 1 rows) head_in, length-drop 1 rows, length-drop 1 (numbers_of rows), length-map rows (λ (row : Row). row.number)))
 
   -- A refusal, with the line that it is about.
-  pub made-refused : {n first line : ℕ} {x : Refused} (numbers : List ℕ) → n ≡ length hs → n ≤ length numbers
-      → first ≡ get_or (numbers_of (rows_of text)) 0 0 → take n numbers ≡ drop 1 (numbers_of (rows_of text))
+  pub made-refused : {first line : ℕ} {numbers : List ℕ} {x : Refused} → first ≡ get_or (numbers_of (rows_of text)) 0 0 → numbers ≡ drop 1 (numbers_of (rows_of text))
       → r ≡ Err x → line ≡ cond (ltb (number_of x.refusal) 6) first (get_or numbers x.place 0)
       → (written (refused_at (number_of x.refusal) x.place) line ≡ to_record_answer text record_size) × (d ≡ to_record_bytes text bytes)
-  made-refused {n} {first} {line} {x} numbers en few ef eb q el =
+  made-refused {first} {line} {numbers} {x} ef eb q el =
       let no = write-not sources hs vs (length bytes) er q in
       let not-0 : number_of x.refusal ≡ 0 → ⊥ = λ y. no.0 (sym no.1 ∙ y) in
       let there : line ≡ line_of text (refused_at (number_of x.refusal) x.place) = rw (ne_eqb (number_of x.refusal) 0 not-0) (el ∙ by-case (ltb (number_of x.refusal) 6) refl) in
@@ -84,5 +86,4 @@ module _ (text bytes : List ℕ) (e : no_fault ≡ text_fault text) (long : leng
       by-case true h = rw (lt-leb 6 (number_of x.refusal) (ltb-true (number_of x.refusal) 6 h)) ef
       by-case false h =
           let six : 6 ≤ number_of x.refusal = ltb-false (number_of x.refusal) 6 h in
-          let inside : x.place < n = omega (arith, place-there q six) in
-          rw (le-leb 6 (number_of x.refusal) six) (sym (get_or-take n numbers x.place 0 inside) ∙ ap (λ (l : List ℕ). get_or l x.place 0) eb ∙ get_or-drop 1 (numbers_of (rows_of text)) x.place 0 ∙ ap (λ (i : ℕ). get_or (numbers_of (rows_of text)) i 0) (one-add x.place))
+          rw (le-leb 6 (number_of x.refusal) six) (ap (λ (l : List ℕ). get_or l x.place 0) eb ∙ get_or-drop 1 (numbers_of (rows_of text)) x.place 0 ∙ ap (λ (i : ℕ). get_or (numbers_of (rows_of text)) i 0) (one-add x.place))

@@ -72,12 +72,21 @@ struct Row<'a> {
     rest: &'a [u8],
 }
 
-// What a text says whose events are read: N, its line, and how many events there are.
+// The events of a text: their heads and values, and the numbers of their lines.
+// No Vec, and no slice of events: memory is fixed, and the writer takes the heads and the values as two slices.
 #[derive(Clone, Copy)]
-struct Listing {
+struct Events<'a> {
+    heads: &'a [u32],
+    values: &'a [u32],
+    numbers: &'a [usize],
+}
+
+// What a text says whose events are read: N, its line, and the events.
+#[derive(Clone, Copy)]
+struct Listing<'a> {
     sources: u32,
     first: usize,
-    events: usize,
+    events: Events<'a>,
 }
 
 // What stands before the first such mark, and after it: nothing, where there is none.
@@ -132,26 +141,25 @@ fn next_row(text: &[u8], line: usize) -> Result<Row<'_>, usize>
     Err(number)
 }
 
-// Stores the heads and values of the rows of events, and the numbers of their lines, up to the first row that is bad, and answers how many there are.
-// No Vec, and no array of events: memory is fixed, and the writer takes the heads and the values as two slices.
-fn read_events(
+// Stores the heads and values of the rows of events, and the numbers of their lines, up to the first row that is bad.
+fn read_events<'a>(
     text: &[u8],
     line: usize,
-    heads: &mut [u32; MOST_EVENTS],
-    values: &mut [u32; MOST_EVENTS],
-    numbers: &mut [usize; MOST_EVENTS],
-) -> Result<usize, Fault>
+    heads: &'a mut [u32; MOST_EVENTS],
+    values: &'a mut [u32; MOST_EVENTS],
+    numbers: &'a mut [usize; MOST_EVENTS],
+) -> Result<Events<'a>, Fault>
     requires { line + length text.now ≤ text_size + 1 }
     ensures fault_value { fault_by result ≡ events_fault 0 (rows_from line (lines_in text.now)) }
-    ensures events { IfOk result (λ n. (n ≤ most_events)
-        × (take n heads.new ≡ map head_in (rows_from line (lines_in text.now)))
-        × (take n values.new ≡ map value_in (rows_from line (lines_in text.now)))
-        × (take n numbers.new ≡ numbers_of (rows_from line (lines_in text.now)))) }
+    ensures events { IfOk result (λ events. (length events.heads.now ≤ most_events)
+        × (events.heads.now ≡ map head_in (rows_from line (lines_in text.now)))
+        × (events.values.now ≡ map value_in (rows_from line (lines_in text.now)))
+        × (events.numbers.now ≡ numbers_of (rows_from line (lines_in text.now)))) }
 {
     let mut rest = text;
     let mut next = line;
     let mut n = 0;
-    // From row to row by what is left of the text; how many there are is the answer.
+    // From row to row by what is left of the text; how many there are says how far the arrays are filled.
     while let Ok(row) = next_row(rest, next) {
         let line = row.number;
         if MOST_EVENTS <= n {
@@ -168,24 +176,27 @@ fn read_events(
         next = line + 1;
         n += 1;
     }
-    Ok(n)
+    Ok(Events {
+        heads: &heads[..n],
+        values: &values[..n],
+        numbers: &numbers[..n],
+    })
 }
 
-// Reads a text: its first fault; else N, its line, and the heads and values with their lines, which fill the first places.
-// Three arrays, as in `read_events`.
-fn read_text(
+// Reads a text: its first fault; else N, its line, and the events.
+fn read_text<'a>(
     text: &[u8],
-    heads: &mut [u32; MOST_EVENTS],
-    values: &mut [u32; MOST_EVENTS],
-    numbers: &mut [usize; MOST_EVENTS],
-) -> Result<Listing, Fault>
+    heads: &'a mut [u32; MOST_EVENTS],
+    values: &'a mut [u32; MOST_EVENTS],
+    numbers: &'a mut [usize; MOST_EVENTS],
+) -> Result<Listing<'a>, Fault>
     ensures fault_value { fault_by result ≡ text_fault text.now }
-    ensures listing { IfOk result (λ read. (read.events ≤ most_events)
+    ensures listing { IfOk result (λ read. (length read.events.heads.now ≤ most_events)
         × (read.sources ≡ sources_of_text text.now)
         × (read.first ≡ get_or (numbers_of (rows_of text.now)) 0 0)
-        × (take read.events heads.new ≡ heads_of_text text.now)
-        × (take read.events values.new ≡ values_of_text text.now)
-        × (take read.events numbers.new ≡ drop 1 (numbers_of (rows_of text.now)))) }
+        × (read.events.heads.now ≡ heads_of_text text.now)
+        × (read.events.values.now ≡ values_of_text text.now)
+        × (read.events.numbers.now ≡ drop 1 (numbers_of (rows_of text.now)))) }
 {
     if TEXT_SIZE < text.len() {
         return Err(Fault {
@@ -211,8 +222,8 @@ fn read_text(
 }
 
 // The line that a refusal of the record's questions is about: that of N, or for questions 6, 27 and 7 that of the event.
-fn line_of(refused: Refused, first: usize, numbers: &[usize; MOST_EVENTS]) -> usize
-    requires { 6 ≤ number_of refused.refusal → refused.place < most_events }
+fn line_of(refused: Refused, first: usize, numbers: &[usize]) -> usize
+    requires { 6 ≤ number_of refused.refusal → refused.place < length numbers.now }
     ensures { result ≡ cond (ltb (number_of refused.refusal) 6) first (get_or numbers.now refused.place 0) }
 {
     if u8::from(refused.refusal) < 6 {
@@ -228,18 +239,17 @@ pub fn to_record(text: &[u8], bytes: &mut [u8; RECORD_SIZE]) -> Result<usize, No
     ensures bytes_after { bytes.new ≡ to_record_bytes text.now bytes.old }
     ensures result_in_bounds { record_length result ≤ length bytes.new }
 {
-    // Three arrays, as in `read_events`.
     let mut heads: [u32; MOST_EVENTS] = [0; MOST_EVENTS];
     let mut values: [u32; MOST_EVENTS] = [0; MOST_EVENTS];
     let mut numbers: [usize; MOST_EVENTS] = [0; MOST_EVENTS];
     let listing = read_text(text, &mut heads, &mut values, &mut numbers)?;
-    let n = listing.events;
+    let events = listing.events;
     // Matched, not mapped: that the place has a line is known where the writing was refused.
-    match record_writer::write(listing.sources, &heads[..n], &values[..n], bytes) {
+    match record_writer::write(listing.sources, events.heads, events.values, bytes) {
         Ok(length) => Ok(length),
         Err(refused) => Err(NotRecord::Refused {
             refused,
-            line: line_of(refused, listing.first, &numbers),
+            line: line_of(refused, listing.first, events.numbers),
         }),
     }
 }

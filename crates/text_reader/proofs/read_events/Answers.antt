@@ -3,7 +3,7 @@ use native.Mathlib.Omega.{arith}
 use mathlib.Core.List.{map}
 use lib.ListN.{take}
 use lib.Seq.{take-length}
-use Rattle.std.proofs.Common.{Ok, Err, ◌<◌}
+use Rattle.std.proofs.Common.{rules, Ok, Err, ◌<◌}
 use Rattle.record.specs.Record.{most_events}
 use Rattle.std.proofs.lemmas.Grind.{common_steps}
 use Rattle.text_reader.specs.Answers.{bad, event_by, why_number}
@@ -53,4 +53,4 @@ returns-clause-events c =
     let inv = c.loop-row.invariant in
     let rows = rows_from c.args.line (lines_in c.args.text.now) in
     let all : take c.loop-row.n rows ≡ rows = rw (rows_end rows c.loop-row.n inv.counted inv.later c.in_default.ensures.0) (take-length rows) in
-    (inv.few, inv.heads ∙ ap (map head_in) all, inv.values ∙ ap (map value_in) all, inv.numbers ∙ ap numbers_of all)
+    (search rules, inv.heads ∙ ap (map head_in) all, inv.values ∙ ap (map value_in) all, inv.numbers ∙ ap numbers_of all)
