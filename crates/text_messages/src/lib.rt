@@ -4,7 +4,7 @@
 ghost use Rattle.std.specs.Prelude.{◌≡◌, ◌≤◌, length};
 ghost use Rattle.buffers.specs.Filled.{filled, HasFirst};
 ghost use Rattle.digits.specs.Pieces.{texts_of, joined};
-ghost use Rattle.text_messages.specs.Messages.{why_words, bad_text, refused_with, refused_in};
+ghost use Rattle.text_messages.specs.Messages.{why_words, is_of_line, bad_text, refused_with, refused_in};
 ghost use Rattle.text_messages.specs.Messages.{refused as refused_message};
 
 use digits::Piece::{Decimal, Text};
@@ -28,6 +28,13 @@ fn why_words(why: u8) -> &'static [u8]
     }
 }
 
+// Whether such a number is that of a bad line.
+fn is_of_line(why: u8) -> bool
+    ensures { result ≡ is_of_line why }
+{
+    matches!(why, 1..=3 | 5)
+}
+
 // Says why a text is bad, and in which line: the message fills the first bytes, and the answer is how many.
 // Numbers, not a fault: published, it says something of any number.
 pub fn bad_text(why: u8, line: usize, out: &mut [u8; MESSAGE_SIZE]) -> usize
@@ -35,8 +42,8 @@ pub fn bad_text(why: u8, line: usize, out: &mut [u8; MESSAGE_SIZE]) -> usize
     ensures out_after { out.new ≡ filled (bad_text why line) out.old }
     ensures has_first { HasFirst result out.new }
 {
-    match why {
-        1..=3 | 5 => put_pieces(
+    if is_of_line(why) {
+        put_pieces(
             out,
             0,
             &[
@@ -46,8 +53,9 @@ pub fn bad_text(why: u8, line: usize, out: &mut [u8; MESSAGE_SIZE]) -> usize
                 Text(why_words(why)),
                 Text(b"\n"),
             ],
-        ),
-        _ => put_text(out, 0, b"refused: the text has more than 1,048,576 bytes\n"),
+        )
+    } else {
+        put_text(out, 0, b"refused: the text has more than 1,048,576 bytes\n")
     }
 }
 
