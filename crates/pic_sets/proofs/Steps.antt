@@ -1,7 +1,6 @@
 -- The bits of a word taken one after the other, from the lowest up.
 use Prim.Native.Nat.{ℕ, zero, suc, ◌+◌, ◌-◌, ◌^◌, ◌<◌, ◌≤◌}
 use mathlib.Core.Path.{◌≡◌, refl, sym, ap, ◌∙◌}
-use mathlib.Core.Bool.{true}
 use mathlib.Core.List.{List}
 use mathlib.Core.Logic.{◌⊎◌, inl, inr}
 use native.Mathlib.Omega.{arith}
@@ -9,7 +8,7 @@ use Rattle.pic_source.specs.declared.Rank.{Rank}
 use Rattle.pic_source.proofs.Bools.{eq-cases, le-cases}
 use Rattle.pic_bits.specs.Bits.{bit_of, source_of, Lowest}
 use Rattle.pic_bits.proofs.Bits.{none-of-zero, clear-same, clear-other}
-use Rattle.pic_sets.specs.Sets.{flipped_if, flipped_to, flipped_word}
+use Rattle.pic_sets.specs.Sets.{flipped_at, flipped_if, flipped_to, flipped_word}
 
 module _ (sets : List (List ℕ)) (rank : ℕ → Rank) (x w : ℕ) where
   -- A bit that is not set changes nothing, one that is set flips its source.
@@ -17,7 +16,7 @@ module _ (sets : List (List ℕ)) (rank : ℕ → Rank) (x w : ℕ) where
   unfolding flipped_to flipped_if
   to-off k h = rw h
 
-  to-on : (k : ℕ) → bit_of w k ≡ 1 → flipped_to sets rank x w (suc k) ≡ flipped_if true (flipped_to sets rank x w k) (rank (source_of x k)).0 (source_of x k)
+  to-on : (k : ℕ) → bit_of w k ≡ 1 → flipped_to sets rank x w (suc k) ≡ flipped_at (flipped_to sets rank x w k) (rank (source_of x k)).0 (source_of x k)
   unfolding flipped_to flipped_if
   to-on k h = rw h
 
@@ -41,13 +40,13 @@ module _ (sets : List (List ℕ)) (rank : ℕ → Rank) (x w : ℕ) where
 
   -- One turn: the lowest bit that is left.
   pub turned : (left k t : ℕ) (now : List (List ℕ)) → Done left k now → Lowest 32 left t
-      → Done (left - 2 ^ t) (t + 1) (flipped_if true now (rank (source_of x t)).0 (source_of x t))
+      → Done (left - 2 ^ t) (t + 1) (flipped_at now (rank (source_of x t)).0 (source_of x t))
   turned left k t now d l =
       record {
         within = omega (arith, l.within);
         low = λ y a. lows y a (eq-cases y t);
         high = λ y a. clear-other t y left l.on (λ i. absurd (omega arith)) ∙ d.high y (omega (arith, a, above));
-        is = ap (λ (s : List (List ℕ)). flipped_if true s (rank (source_of x t)).0 (source_of x t)) (d.is ∙ passed) ∙ sym (to-on t (sym (d.high t above) ∙ l.on)) ∙ ap (flipped_to sets rank x w) plus;
+        is = ap (λ (s : List (List ℕ)). flipped_at s (rank (source_of x t)).0 (source_of x t)) (d.is ∙ passed) ∙ sym (to-on t (sym (d.high t above) ∙ l.on)) ∙ ap (flipped_to sets rank x w) plus;
       }
     where
       plus : suc t ≡ t + 1

@@ -1,33 +1,38 @@
 // Sources that enter the set of their rank or leave it: one, or those of a word.
 
 ghost use Rattle.std.specs.Prelude.{◌≡◌, ◌%◌};
-ghost use Rattle.pic_sets.specs.Sets.{flipped_if, updated_of, OthersStay, rank_at, flipped_word};
+ghost use Rattle.pic_sets.specs.Sets.{flipped_at, updated_of, OthersStay, rank_at, flipped_word};
 
+use crate::Sets;
 use pic_bits::lowest_bit;
 use pic_source::ranks::to_rank;
 use pic_source::{Field, Rank};
 
-// Where it is asked for, source s enters the set of a rank, or leaves it. A rank above 15 has no set.
-// Whether, beside which rank: the rule of the published update has both.
-fn flip(sets: &mut [[u32; 8]; 16], on: bool, rank: Rank, s: u8)
-    ensures { sets.new ≡ flipped_if on sets.old rank.0 s }
+// Source s enters the set of a rank, or leaves it. A rank above 15 has no set.
+fn flip(sets: &mut Sets, rank: Rank, s: u8)
+    ensures { sets.new ≡ flipped_at sets.old rank.0 s }
 {
-    if on && rank.0 < 16 {
+    if rank.0 < 16 {
         sets[rank.0 as usize][(s / 32) as usize] ^= 1 << (s % 32);
     }
 }
 
 // Source s leaves the set of its old rank where it was ready, and enters that of its new rank where it is. No other set is touched.
-pub fn update(sets: &mut [[u32; 8]; 16], s: u8, old: Rank, was: bool, new: Rank, is: bool)
+#[tactic(auto, unfolding(crate::specs::Sets::updated_of, crate::specs::Sets::flipped_if))]
+pub fn update(sets: &mut Sets, s: u8, old: Rank, was: bool, new: Rank, is: bool)
     ensures sets_after { sets.new ≡ updated_of sets.old s old was new is }
     ensures others_stay { OthersStay sets.old sets.new old new }
 {
-    flip(sets, was, old, s);
-    flip(sets, is, new, s);
+    if was {
+        flip(sets, old, s);
+    }
+    if is {
+        flip(sets, new, s);
+    }
 }
 
 // Each source of word x whose bit is set in changed enters the set of its rank, or leaves it. A word above 7 stands for what is left of it by 8.
-pub fn flip_word(sets: &mut [[u32; 8]; 16], field: &[u8; 256], priord: u8, x: u8, changed: u32)
+pub fn flip_word(sets: &mut Sets, field: &[u8; 256], priord: u8, x: u8, changed: u32)
     ensures { sets.new ≡ flipped_word sets.old (rank_at priord field.now) (x % 8) changed }
 {
     let mut left = changed;
@@ -35,7 +40,7 @@ pub fn flip_word(sets: &mut [[u32; 8]; 16], field: &[u8; 256], priord: u8, x: u8
     while left != 0 {
         let y = lowest_bit(left);
         let s = 32 * (x % 8) + (y as u8);
-        flip(sets, true, to_rank(priord, Field(field[s as usize])), s);
+        flip(sets, to_rank(priord, Field(field[s as usize])), s);
         left -= 1 << y;
     }
 }

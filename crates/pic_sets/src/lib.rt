@@ -4,3 +4,9 @@
 
 pub mod flips;
 pub mod switches;
+
+// 256 bits, one for each source.
+pub type Set = [u32; 8];
+
+// The set of each rank.
+pub type Sets = [Set; 16];

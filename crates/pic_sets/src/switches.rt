@@ -3,8 +3,10 @@
 ghost use Rattle.std.specs.Prelude.{◌≡◌};
 ghost use Rattle.pic_sets.specs.Sets.{reversed_of};
 
+use crate::Sets;
+
 // The set of rank r becomes that of rank 15 - r.
-pub fn reverse(sets: &mut [[u32; 8]; 16])
+pub fn reverse(sets: &mut Sets)
     ensures { sets.new ≡ reversed_of sets.old }
 {
     sets.reverse();

@@ -6,10 +6,11 @@ ghost use Rattle.pic_sets_winner.specs.Highest.{number_or_256, lowest_of, highes
 
 use pic_bits::lowest_bit;
 use pic_comparator::Winner;
+use pic_sets::{Set, Sets};
 use pic_source::Rank;
 
 // The lowest number of a set.
-fn lowest(set: [u32; 8]) -> Option<u8>
+fn lowest(set: Set) -> Option<u8>
     ensures { number_or_256 result ≡ lowest_of set }
 {
     let x = set.iter().position(|w| *w != 0)?;
@@ -17,7 +18,7 @@ fn lowest(set: [u32; 8]) -> Option<u8>
 }
 
 // The lowest source of the highest set above 0 that is not empty.
-pub fn highest(sets: &[[u32; 8]; 16]) -> Winner
+pub fn highest(sets: &Sets) -> Winner
     ensures { result ≡ highest_of sets.now }
 {
     for r in (1..16).rev() {

@@ -1,11 +1,19 @@
 use mathlib.Core.Path.{◌≡◌}
-use Rattle.pic_sets.specs.Sets.{updated_of}
+use borrow.Author.Rules.{rules}
+use Rattle.pic_sets.specs.Sets.{flipped_if, updated_of}
 use Rattle.pic_sets.proofs.Members.{others-stay}
 use Rattle.pic_sets.proofs.flips.update.Goals as goal
 
-pub returns : goal.returns
-unfolding updated_of
-returns c =
+pub returns-then-is-clause-others_stay : goal.returns-then-is-clause-others_stay
+unfolding updated_of flipped_if
+returns-then-is-clause-others_stay c =
     let a = c.args in
-    let e : c.flip-2.new.sets ≡ updated_of a.sets.now a.s a.old a.was a.new a.is = rw (c.flip-2.ensures, c.flip.ensures) in
-    record { sets_after = e; others_stay = rw e (others-stay a.sets.now a.s a.old a.was a.new a.is) }
+    let e : c.flip-then-is.new.sets ≡ updated_of a.sets.now a.s a.old a.was a.new a.is = search rules in
+    rw e (others-stay a.sets.now a.s a.old a.was a.new a.is)
+
+pub returns-else-is-clause-others_stay : goal.returns-else-is-clause-others_stay
+unfolding updated_of flipped_if
+returns-else-is-clause-others_stay c =
+    let a = c.args in
+    let e : c.if-was.sets ≡ updated_of a.sets.now a.s a.old a.was a.new a.is = search rules in
+    rw e (others-stay a.sets.now a.s a.old a.was a.new a.is)
