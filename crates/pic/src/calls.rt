@@ -1,7 +1,7 @@
 // What the controller answers to the layers above: N, the current rank, a look at the winner, the capture; and how an event is accepted or refused.
 
 ghost use Rattle.std.specs.Prelude.{◌≡◌};
-ghost use Rattle.pic.specs.Sources.{difference_of, higher_of, over_of};
+ghost use Rattle.pic.specs.Sources.{threshold_of, difference_of, higher_of, over_of};
 ghost use Rattle.pic.specs.Calls.{source_count, priority_order, current_rank, set_current, meihap_of, capture_of, look_of};
 
 use crate::{Controller, Look};
@@ -75,13 +75,18 @@ impl Controller {
         self
     }
 
+    // The rank of the threshold.
+    fn threshold(self) -> Rank
+        ensures { result ≡ threshold_of self.scalars }
+    {
+        to_rank(self.scalars.priord, self.scalars.threshold)
+    }
+
     // A rank minus the larger of threshold and current.
     fn over(self, rank: Rank) -> i32
         ensures { result ≡ over_of self rank }
     {
-        let v = self.scalars;
-        let threshold = to_rank(v.priord, v.threshold);
-        difference(rank, higher(threshold, self.current_rank()))
+        difference(rank, higher(self.threshold(), self.current_rank()))
     }
 
     // The margin alone: the winner's number is not asked for, so the compiler need not keep it.
@@ -97,13 +102,11 @@ impl Controller {
         ensures { result ≡ look_of self }
     {
         let w = self.winner();
-        let v = self.scalars;
-        let threshold = to_rank(v.priord, v.threshold);
         Look {
             winner: w,
-            above: threshold.0 < w.rank.0,
+            above: self.threshold().0 < w.rank.0,
             margin: self.over(w.rank),
-            meihap: meihap(v.base, w.source),
+            meihap: meihap(self.scalars.base, w.source),
         }
     }
 }

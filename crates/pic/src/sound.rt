@@ -1,7 +1,7 @@
 // Power-on, and whether a controller is sound.
 
 ghost use Rattle.std.specs.Prelude.{◌≡◌};
-ghost use Rattle.pic.specs.Sound.{source_sound, initial, sources_sound, sound_of};
+ghost use Rattle.pic.specs.Sound.{source_sound_at, initial, sources_sound, sound_of};
 ghost use Rattle.pic.specs.Calls.{power_on_of};
 
 use crate::{Controller, Outcome, Scalars};
@@ -9,21 +9,6 @@ use outcome::Answering;
 use pic_source::Field;
 use questions::Refusal;
 use source_count::is_count;
-
-// Whether the values of a source are sound.
-// The six numbers of a source, which stand in arrays of their own.
-#[tactic(auto, unfolding(crate::specs::Sound::source_sound))]
-fn source_sound(field: Field, enable: u8, trigger: u8, polarity: u8, line: u8, latch: u8) -> bool
-    ensures { result ≡ source_sound field enable trigger polarity line latch }
-{
-    (field.0 <= 15)
-        & (enable <= 1)
-        & (trigger <= 1)
-        & (polarity <= 1)
-        & (line <= 1)
-        & (latch <= 1)
-        & ((line == polarity) | (latch == 1))
-}
 
 // All else 0.
 fn with_sources(n: u8) -> Controller
@@ -62,21 +47,30 @@ impl Controller {
         }
     }
 
+    // Whether the values of source s are sound.
+    #[tactic(auto, unfolding(crate::specs::Sound::source_sound))]
+    fn source_sound(&self, s: u8) -> bool
+        ensures { result ≡ source_sound_at self.now s }
+    {
+        let i = s as usize;
+        let line = self.line[i];
+        let polarity = self.polarity[i];
+        let latch = self.latch[i];
+        (self.field[i] <= 15)
+            & (self.enable[i] <= 1)
+            & (self.trigger[i] <= 1)
+            & (polarity <= 1)
+            & (line <= 1)
+            & (latch <= 1)
+            & ((line == polarity) | (latch == 1))
+    }
+
     fn sources_sound(self) -> bool
         ensures { result ≡ sources_sound self self.sources }
     {
-        let n = self.sources as usize;
         let mut ok = true;
-        for s in 1..n + 1 {
-            ok = ok
-                & source_sound(
-                    Field(self.field[s]),
-                    self.enable[s],
-                    self.trigger[s],
-                    self.polarity[s],
-                    self.line[s],
-                    self.latch[s],
-                );
+        for s in 1..=self.sources {
+            ok = ok & self.source_sound(s);
         }
         ok
     }

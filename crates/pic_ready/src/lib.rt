@@ -5,9 +5,8 @@ ghost use Rattle.std.specs.Prelude.{◌≡◌};
 ghost use Rattle.pic_ready.specs.Ready.{ready_at, fresh_of};
 
 use pic::Controller;
+use pic_sets::Sets;
 use pic_sets::flips::update;
-use pic_source::Field;
-use pic_source::ranks::to_rank;
 use pic_source::sources::is_source;
 
 // Whether s is a source that is enabled and pending.
@@ -19,12 +18,12 @@ pub fn ready(c: &Controller, s: u8) -> bool
 }
 
 // Each source enters the set of its rank, if it is enabled and pending.
-pub fn ready_sets(c: Controller) -> [[u32; 8]; 16]
+pub fn ready_sets(c: Controller) -> Sets
     ensures { result ≡ fresh_of c }
 {
     let mut sets = [[0u32; 8]; 16];
     for s in 1..=c.sources {
-        let rank = to_rank(c.scalars.priord, Field(c.field[s as usize]));
+        let rank = c.rank(s);
         update(&mut sets, s, rank, false, rank, ready(&c, s));
     }
     sets

@@ -23,7 +23,7 @@ pending-bit c x y h = bit-of-word (pending_bit c x) 32 y h
 
 -- An array whose places of word x take values.
 module _ (n : ℕ) (l : List ℕ) (x : ℕ) (f : ℕ → ℕ) where
-  places-to-length : (k : ℕ) → length (places_to n l x f k) ≡ length l
+  pub places-to-length : (k : ℕ) → length (places_to n l x f k) ≡ length l
   unfolding places_to
   places-to-length zero = refl
   places-to-length (suc k) = go (is_source n (source_of x k)) (places-to-length k)

@@ -39,7 +39,7 @@ fn read(c: Controller, r: Register) -> u32
 {
     match r {
         Register::Meipl(s) => field_at(c, s),
-        Register::Meip(x) => pending_word(c, x as usize),
+        Register::Meip(x) => pending_word(c, x),
         Register::Meie(s) => enable_at(c, s),
         Register::Mpiccfg => c.scalars.priord as u32,
         Register::Meigwctrl(s) => gateway_at(c, s),
@@ -70,7 +70,7 @@ pub fn sample(c: Controller, x: u32, v: u32) -> Outcome
     if 7 < x {
         return c.refuse_for(Refusal::NoSuchWord);
     }
-    take_lines(c, x as usize, v).accept(0)
+    take_lines(c, x as u8, v).accept(0)
 }
 
 // A load of the word at an offset.

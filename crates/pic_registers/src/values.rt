@@ -37,12 +37,11 @@ pub(crate) fn gateway_at(c: Controller, s: u8) -> u32
 }
 
 // The latch of source s, set where its line is active.
-pub(crate) fn settle_at(mut c: Controller, s: u8) -> Controller
-    ensures { result ≡ settle_at c s }
+pub(crate) fn settle_at(c: &mut Controller, s: u8)
+    ensures { c.new ≡ settle_at c.old s }
 {
     let i = s as usize;
     c.latch[i] = latch_after(c.line[i], c.polarity[i], c.latch[i]);
-    c
 }
 
 // The field of source s, bits 3:0 of v.
@@ -74,7 +73,8 @@ pub(crate) fn write_gateway(mut c: Controller, s: u8, v: u32) -> Controller
     let i = s as usize;
     c.trigger[i] = (v / 2 % 2) as u8;
     c.polarity[i] = (v % 2) as u8;
-    settle_at(c, s)
+    settle_at(&mut c, s);
+    c
 }
 
 // The latch of source s cleared, and set again where its line is active.
@@ -82,5 +82,6 @@ pub(crate) fn clear_latch(mut c: Controller, s: u8) -> Controller
     ensures { result ≡ written_of c (Some (Meigwclr s)) 0 }
 {
     c.latch[s as usize] = 0;
-    settle_at(c, s)
+    settle_at(&mut c, s);
+    c
 }

@@ -18,6 +18,7 @@ fn flip(sets: &mut Sets, rank: Rank, s: u8)
 }
 
 // Source s leaves the set of its old rank where it was ready, and enters that of its new rank where it is. No other set is touched.
+// Flags beside the ranks: it is published, and its rule has them.
 #[tactic(auto, unfolding(crate::specs::Sets::updated_of, crate::specs::Sets::flipped_if))]
 pub fn update(sets: &mut Sets, s: u8, old: Rank, was: bool, new: Rank, is: bool)
     ensures sets_after { sets.new ≡ updated_of sets.old s old was new is }

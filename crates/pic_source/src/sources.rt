@@ -11,6 +11,7 @@ pub fn is_source(n: u8, s: u32) -> bool
 }
 
 // A latch after an event that left its line, its polarity and itself so.
+// Loose values, here and below: these are published, and the rules that docs/RULES.md cites have the same arguments.
 pub fn latch_after(line: u8, polarity: u8, latch: u8) -> u8
     ensures { result ≡ latch_after line polarity latch }
 {

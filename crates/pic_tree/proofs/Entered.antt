@@ -1,7 +1,7 @@
 -- One turn of the loop that writes the entering ranks, over plain variables; and what the tree makes of them.
 use Prim.Native.Nat.{ℕ, ◌-◌, ◌<◌}
 use mathlib.Core.Path.{◌≡◌, sym, ap, ◌∙◌}
-use mathlib.Core.Bool.{Bool, cond}
+use mathlib.Core.Bool.{cond}
 use mathlib.Core.List.{List}
 use mathlib.Core.Logic.{⊎_elim}
 use native.Mathlib.Omega.{arith}
@@ -23,16 +23,16 @@ use Rattle.pic_tree.specs.Tree.{Entering, tree_winner}
 use Rattle.pic_tree.proofs.Rooted.{any-tree}
 
 -- The next source's entering rank.
-pub turn : (c : Controller) (s : ℕ) (ranks : List ℕ) {r : ℕ} {waits : Bool} → s < length ranks → Entering c (s - 1) ranks → waits ≡ waiting_at c s
-    → r ≡ cond waits (rank_at c s).0 0 → Entering c s (set ranks s r)
-turn c s ranks {r} {waits} l h w e i a b = ⊎_elim same other (eq-cases i s)
+pub turn : (c : Controller) (s : ℕ) (ranks : List ℕ) {r : ℕ} → s < length ranks → Entering c (s - 1) ranks → r ≡ cond (waiting_at c s) (rank_at c s).0 0
+    → Entering c s (set ranks s r)
+turn c s ranks {r} l h e i a b = ⊎_elim same other (eq-cases i s)
   where
     at : (v w : ℕ) → v ≡ w → entry_of (leb 1 v) i (rank v) ≡ entry_of (leb 1 w) i (rank w)
     at v w e = ap (λ (v : ℕ). entry_of (leb 1 v) i (rank v)) e
 
     same : i ≡ s → entered_by (set ranks s r) i ≡ entry_at c i
     same z =
-        let v : get_or (set ranks s r) i 0 ≡ cond (waiting_at c i) (rank_at c i).0 0 = rw (z, get_or-set_same ranks s r 0 l, e, w) in
+        let v : get_or (set ranks s r) i 0 ≡ cond (waiting_at c i) (rank_at c i).0 0 = rw (z, get_or-set_same ranks s r 0 l, e) in
         at _ _ v ∙ enters-waiting (waiting_at c i) i (rank_at c i) ∙ sym (entry-waiting c i)
 
     other : (i ≡ s → ⊥) → entered_by (set ranks s r) i ≡ entry_at c i

@@ -2,20 +2,19 @@
 #![tactic(auto)]
 
 ghost use Rattle.std.specs.Prelude.{◌≡◌};
-ghost use Rattle.pic.specs.Sources.{winner_of};
+ghost use Rattle.pic.specs.Sources.{field_at, waiting_at, winner_of};
 ghost use Rattle.pic_tree.specs.Tree.{entering_rank, Entering, tree_winner};
 
 use pic::Controller;
 use pic_comparator::Winner;
 use pic_comparator::trees::balanced;
-use pic_source::Field;
-use pic_source::ranks::to_rank;
 
-// The entering rank of a source: its rank where it is enabled and pending, else 0. A rank of 0 is not eligible, and enters as such.
-fn entering_rank(waits: bool, priord: u8, field: Field) -> u8
-    ensures { result ≡ entering_rank waits priord field }
+// The entering rank of source s: its rank where it is enabled and pending, else 0. A rank of 0 is not eligible, and enters as such.
+// No Option: the tree takes entering ranks as numbers, in which 0 is not eligible.
+fn entering_rank(c: &Controller, s: u8) -> u8
+    ensures { result ≡ entering_rank (waiting_at c.now s) c.now.scalars.priord (field_at c.now s) }
 {
-    if waits { to_rank(priord, field).0 } else { 0 }
+    if c.waits(s) { c.rank(s).0 } else { 0 }
 }
 
 // The entering ranks of the sources, by number.
@@ -24,8 +23,7 @@ fn entering_ranks(c: Controller) -> [u8; 256]
 {
     let mut ranks = [0u8; 256];
     for s in 1..=c.sources {
-        let i = s as usize;
-        ranks[i] = entering_rank(c.waits(s), c.scalars.priord, Field(c.field[i]));
+        ranks[s as usize] = entering_rank(&c, s);
     }
     ranks
 }

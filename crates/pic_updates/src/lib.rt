@@ -9,29 +9,25 @@ ghost use Rattle.pic_updates.specs.Updates.{moved_where, moved_at, moved_word};
 
 use pic::{Controller, Outcome};
 use pic_ready::ready;
+use pic_sets::Sets;
 use pic_sets::flips::update;
 use pic_sets::switches::reverse;
-use pic_source::Field;
-use pic_source::ranks::to_rank;
 
 // What the type of sets says of their list. A reference tells no more than that there are sixteen; passed by value, they tell the rest.
-fn sixteen(sets: [[u32; 8]; 16])
+fn sixteen(sets: Sets)
     ensures { Shaped 16 sets }
 {}
 
 // Source s, as it is in c before an event and in d after it.
-fn follow_source(c: Controller, d: Controller, s: u8, sets: &mut [[u32; 8]; 16])
+fn follow_source(c: Controller, d: Controller, s: u8, sets: &mut Sets)
     ensures { sets.new ≡ moved_at c d s sets.old }
 {
     sixteen(*sets);
-    let i = s as usize;
-    let old = to_rank(c.scalars.priord, Field(c.field[i]));
-    let new = to_rank(d.scalars.priord, Field(d.field[i]));
-    update(sets, s, old, ready(&c, s), new, ready(&d, s));
+    update(sets, s, c.rank(s), ready(&c, s), d.rank(s), ready(&d, s));
 }
 
 // The sources of word x.
-fn follow_word(c: Controller, d: Controller, x: u8, sets: &mut [[u32; 8]; 16])
+fn follow_word(c: Controller, d: Controller, x: u8, sets: &mut Sets)
     ensures { sets.new ≡ moved_word c d (x % 8) sets.old }
 {
     sixteen(*sets);
@@ -41,7 +37,7 @@ fn follow_word(c: Controller, d: Controller, x: u8, sets: &mut [[u32; 8]; 16])
 }
 
 // The lines of word x take the bits of v.
-pub fn sample(c: Controller, x: u32, v: u32, sets: &mut [[u32; 8]; 16]) -> Outcome
+pub fn sample(c: Controller, x: u32, v: u32, sets: &mut Sets) -> Outcome
     ensures value { result ≡ sample_of c x v }
     ensures sets_after { sets.new ≡ followed_of c (sample_of c x v).machine sets.old }
 {
@@ -52,7 +48,7 @@ pub fn sample(c: Controller, x: u32, v: u32, sets: &mut [[u32; 8]; 16]) -> Outco
 }
 
 // A store of the word v at an offset. It changes one source at most, or priord.
-pub fn store(c: Controller, offset: u32, v: u32, sets: &mut [[u32; 8]; 16]) -> Outcome
+pub fn store(c: Controller, offset: u32, v: u32, sets: &mut Sets) -> Outcome
     ensures value { result ≡ store_of c offset v }
     ensures sets_after { sets.new ≡ followed_of c (store_of c offset v).machine sets.old }
 {

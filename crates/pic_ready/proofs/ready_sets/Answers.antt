@@ -14,7 +14,7 @@ loop-s-preserved c =
     let l = c.loop-s in
     let e : l.s ≡ l.s + 1 - 1 = omega arith in (
       search rules,
-      entered-next c.args.c (l.s - 1) l.s (omega arith) l.invariant.1 c.to_rank-rank.ensures c.ready.ensures c.update.ensures.sets_after
+      entered-next c.args.c (l.s - 1) l.s (omega arith) l.invariant.1 c.rank-rank.ensures c.ready.ensures c.update.ensures.sets_after
           ∙ ap (λ k. sets_by (entered c.args.c k)) e,
     )
 
@@ -27,6 +27,6 @@ pub returns-2 : goal.returns-2
 returns-2 c =
     let l = c.loop-s in
     let e : l.s ≡ c.args.c.sources = omega arith in
-    entered-next c.args.c (l.s - 1) l.s (omega arith) l.invariant.1 c.to_rank-rank.ensures c.ready.ensures c.update.ensures.sets_after
+    entered-next c.args.c (l.s - 1) l.s (omega arith) l.invariant.1 c.rank-rank.ensures c.ready.ensures c.update.ensures.sets_after
     ∙ ap (λ k. sets_by (entered c.args.c k)) e
     ∙ entered_all c.args.c

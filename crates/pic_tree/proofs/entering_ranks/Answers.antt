@@ -12,7 +12,7 @@ pub loop-s-preserved : goal.loop-s-preserved
 loop-s-preserved c =
     let l = c.loop-s in
     let e : l.s + 1 - 1 ≡ l.s = omega arith in
-    (search rules, rw e (turn c.args.c l.s l.ranks (omega (arith, l.invariant.0)) l.invariant.1 c.waits.ensures c.entering_rank.ensures))
+    (search rules, rw e (turn c.args.c l.s l.ranks (omega (arith, l.invariant.0)) l.invariant.1 c.entering_rank.ensures))
 
 pub returns : goal.returns
 returns c i a b = c.loop-s.invariant.1 i a (omega arith)
@@ -20,4 +20,4 @@ returns c i a b = c.loop-s.invariant.1 i a (omega arith)
 pub returns-2 : goal.returns-2
 returns-2 c i a b =
     let l = c.loop-s in
-    turn c.args.c l.s l.ranks (omega (arith, l.invariant.0)) l.invariant.1 c.waits.ensures c.entering_rank.ensures i a (omega arith)
+    turn c.args.c l.s l.ranks (omega (arith, l.invariant.0)) l.invariant.1 c.entering_rank.ensures i a (omega arith)

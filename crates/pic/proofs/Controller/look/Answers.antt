@@ -9,6 +9,6 @@ returns c =
       c.meihap.ensures,
       to_z-of_z {w = w32} {z = c.over.result} (search rules),
       c.over.ensures,
-      c.to_rank-threshold.ensures,
+      c.threshold.ensures,
       c.winner-w.ensures,
     )

@@ -5,4 +5,4 @@ use Rattle.pic.proofs.Controller.over.Goals as goal
 pub returns : goal.returns
 unfolding current_rank
 returns c =
-    rw (to_z-of_z {w = w32} {z = c.difference.result} (search rules), c.difference.ensures, c.higher.ensures, c.current_rank.ensures, c.to_rank-threshold.ensures)
+    rw (to_z-of_z {w = w32} {z = c.difference.result} (search rules), c.difference.ensures, c.higher.ensures, c.current_rank.ensures, c.threshold.ensures)
