@@ -30,7 +30,7 @@ fn with_sources(n: u8) -> Controller
         polarity: [0u8; 256],
         line: [0u8; 256],
         latch: [0u8; 256],
-        scalars: scalars,
+        scalars,
     }
 }
 

@@ -29,22 +29,13 @@ pub(crate) fn register_at(n: u8, offset: u32) -> Option<Register>
 {
     let page = offset / 4096;
     let i = offset % 4096 / 4;
-    if page == 1 {
-        if i < 8 {
-            return Some(Register::Meip(i as u8));
-        }
-        return None;
+    match page {
+        1 if i < 8 => Some(Register::Meip(i as u8)),
+        3 if i == 0 => Some(Register::Mpiccfg),
+        1 | 3 => None,
+        _ if is_source(n, i) => source_register(page, i as u8),
+        _ => None,
     }
-    if page == 3 {
-        if i == 0 {
-            return Some(Register::Mpiccfg);
-        }
-        return None;
-    }
-    if is_source(n, i) {
-        return source_register(page, i as u8);
-    }
-    None
 }
 
 // Questions 10 and 11 of an offset.

@@ -23,17 +23,11 @@ pub(crate) fn enable_at(c: Controller, s: u8) -> u32
 }
 
 // The word of meigwctrl: bit 1 type, bit 0 polarity.
-fn gateway_word(trigger: u8, polarity: u8) -> u32
-    ensures { result ≡ 2 * trigger + polarity }
-{
-    2 * (trigger as u32) + (polarity as u32)
-}
-
 pub(crate) fn gateway_at(c: Controller, s: u8) -> u32
     ensures { result ≡ 2 * trigger_at c s + polarity_at c s }
 {
     let i = s as usize;
-    gateway_word(c.trigger[i], c.polarity[i])
+    2 * (c.trigger[i] as u32) + (c.polarity[i] as u32)
 }
 
 // The latch of source s, set where its line is active.

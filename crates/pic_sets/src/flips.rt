@@ -9,6 +9,7 @@ use pic_source::ranks::to_rank;
 use pic_source::{Field, Rank};
 
 // Source s enters the set of a rank, or leaves it. A rank above 15 has no set.
+#[tactic(auto, unfolding(crate::specs::Sets::flipped_at))]
 fn flip(sets: &mut Sets, rank: Rank, s: u8)
     ensures { sets.new ≡ flipped_at sets.old rank.0 s }
 {
@@ -19,7 +20,7 @@ fn flip(sets: &mut Sets, rank: Rank, s: u8)
 
 // Source s leaves the set of its old rank where it was ready, and enters that of its new rank where it is. No other set is touched.
 // Flags beside the ranks: it is published, and its rule has them.
-#[tactic(auto, unfolding(crate::specs::Sets::updated_of, crate::specs::Sets::flipped_if))]
+#[tactic(auto, unfolding(crate::specs::Sets::updated_of, crate::specs::Sets::flipped_if, crate::specs::Sets::flipped_at))]
 pub fn update(sets: &mut Sets, s: u8, old: Rank, was: bool, new: Rank, is: bool)
     ensures sets_after { sets.new ≡ updated_of sets.old s old was new is }
     ensures others_stay { OthersStay sets.old sets.new old new }
