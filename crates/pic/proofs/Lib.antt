@@ -2,8 +2,8 @@
 pub mod Latches
 pub mod Soundness
 pub mod Winning
-pub mod Calling
 pub mod Difference
 pub mod Larger
 pub mod Margins
 pub mod Turns
+pub mod Calling

@@ -11,6 +11,7 @@ use pic_source::ranks::{to_field, to_rank};
 
 // The larger of two ranks.
 // By the numbers, here and in a look, as the rule compares them: the check did not close it by the derived order.
+#[tactic(auto, unfolding(crate::specs::Sources::higher_of))]
 fn higher(a: Rank, b: Rank) -> Rank
     ensures { result ≡ higher_of a b }
 {
@@ -18,6 +19,7 @@ fn higher(a: Rank, b: Rank) -> Rank
 }
 
 // The first rank minus the second.
+#[tactic(auto, unfolding(crate::specs::Sources::difference_of))]
 fn difference(a: Rank, b: Rank) -> i32
     ensures { result ≡ difference_of a b }
 {
@@ -83,6 +85,7 @@ impl Controller {
     }
 
     // A rank minus the larger of threshold and current.
+    #[tactic(auto, unfolding(crate::specs::Calls::current_rank))]
     fn over(self, rank: Rank) -> i32
         ensures { result ≡ over_of self rank }
     {
@@ -90,6 +93,7 @@ impl Controller {
     }
 
     // The margin alone: the winner's number is not asked for, so the compiler need not keep it.
+    #[tactic(auto, unfolding(crate::specs::Calls::look_of))]
     pub fn margin(self) -> i32
         ensures { result ≡ (look_of self).margin }
     {
@@ -98,6 +102,7 @@ impl Controller {
     }
 
     // All that the layer above asks of the winner, from one look.
+    #[tactic(auto, unfolding(crate::specs::Calls::look_of))]
     pub fn look(self) -> Look
         ensures { result ≡ look_of self }
     {

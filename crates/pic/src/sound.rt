@@ -75,6 +75,7 @@ impl Controller {
         ok
     }
 
+    #[tactic(auto, unfolding(crate::specs::Sound::sound_of))]
     pub fn is_sound(self) -> bool
         ensures { result ≡ sound_of self }
     {
