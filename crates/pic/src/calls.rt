@@ -1,22 +1,13 @@
 // What the controller answers to the layers above: N, the current rank, a look at the winner, the capture; and how an event is accepted or refused.
 
 ghost use Rattle.std.specs.Prelude.{◌≡◌};
-ghost use Rattle.pic.specs.Sources.{threshold_of, difference_of, higher_of, over_of};
+ghost use Rattle.pic.specs.Sources.{threshold_of, difference_of, over_of};
 ghost use Rattle.pic.specs.Calls.{source_count, priority_order, current_rank, set_current, meihap_of, capture_of, look_of};
 
 use crate::{Controller, Look};
 use pic_comparator::Winner;
 use pic_source::Rank;
 use pic_source::ranks::{to_field, to_rank};
-
-// The larger of two ranks.
-// By the numbers, here and in a look, as the rule compares them: the check did not close it by the derived order.
-#[tactic(auto, unfolding(crate::specs::Sources::higher_of))]
-fn higher(a: Rank, b: Rank) -> Rank
-    ensures { result ≡ higher_of a b }
-{
-    Rank(a.0.max(b.0))
-}
 
 // The first rank minus the second.
 #[tactic(auto, unfolding(crate::specs::Sources::difference_of))]
@@ -85,11 +76,11 @@ impl Controller {
     }
 
     // A rank minus the larger of threshold and current.
-    #[tactic(auto, unfolding(crate::specs::Calls::current_rank))]
+    #[tactic(auto, unfolding(crate::specs::Calls::current_rank, crate::specs::Sources::higher_of))]
     fn over(self, rank: Rank) -> i32
         ensures { result ≡ over_of self rank }
     {
-        difference(rank, higher(self.threshold(), self.current_rank()))
+        difference(rank, self.threshold().max(self.current_rank()))
     }
 
     // The margin alone: the winner's number is not asked for, so the compiler need not keep it.
@@ -109,7 +100,7 @@ impl Controller {
         let w = self.winner();
         Look {
             winner: w,
-            above: self.threshold().0 < w.rank.0,
+            above: self.threshold() < w.rank,
             margin: self.over(w.rank),
             meihap: meihap(self.scalars.base, w.source),
         }
