@@ -68,11 +68,7 @@ impl Controller {
     fn sources_sound(self) -> bool
         ensures { result ≡ sources_sound self self.sources }
     {
-        let mut ok = true;
-        for s in 1..=self.sources {
-            ok = ok & self.source_sound(s);
-        }
-        ok
+        (1..=self.sources).all(|s| self.source_sound(s))
     }
 
     #[tactic(auto, unfolding(crate::specs::Sound::sound_of))]
