@@ -2,7 +2,6 @@ use mathlib.Core.Path.{sym, ◌∙◌}
 use mir.Facts.{to_z-of_z}
 use mir.Syntax.{w32}
 use borrow.Author.Rules.{rules}
-use Rattle.questions.specs.Numbers.{number_of}
 use Rattle.handlers.specs.Calls.{margin_answer}
 use Rattle.handlers.proofs.Machine.margin.Goals as goal
 
