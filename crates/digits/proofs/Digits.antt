@@ -11,17 +11,10 @@ use mathlib.Core.List.{List, [], ◌∷◌, ◌++◌}
 use lib.ListN.{length, set, length-append}
 use lib.Seq.{sets}
 use lib.Dec.{ltb, leb}
+use Rattle.std.proofs.lemmas.Bool.{and_right}
 use Rattle.digits.specs.Digits.{glyph, digits_to, decimal}
 use Rattle.digits.specs.Put.{put_at, place_after}
 use Rattle.digits.proofs.Stores.{last-first, fitting, not-fitting}
-
-both : (a b : Bool) → a && b ≡ true → (a ≡ true) × (b ≡ true)
-both true b e = (refl, e)
-both false b e = (e, cc)
-
-and_right : (a b : Bool) → b ≡ false → a && b ≡ false
-and_right true b e = e
-and_right false b e = refl
 
 -- No digits.
 pub no_digit : (base least most n : ℕ) → most ≡ 0 → digits_to base least most n ≡ []
@@ -63,6 +56,10 @@ digits-most base least (suc most) n = by-case (ltb n base && leb least 1) (digit
         → length (cond b (glyph n ∷ []) (digits_to base (least - 1) most (n / base) ++ glyph (n % base) ∷ [])) ≤ suc most
     by-case true h = omega arith
     by-case false h = rw (length-append) (omega arith)
+
+-- A decimal number has at most twenty.
+pub number-length : (n : ℕ) → length (decimal n) ≤ 20
+number-length n = digits-most 10 1 20 n
 
 exact_one : (base n : ℕ) → digits_to base 1 1 n ≡ glyph (n % base) ∷ []
 unfolding digits_to

@@ -8,7 +8,7 @@ use mathlib.Core.List.{List, [], ◌∷◌, ◌++◌, append_assoc, append-nil}
 use lib.ListN.{length, get_or, take, length-append}
 use lib.Seq.{length-sets, take_all}
 use Rattle.digits.specs.Digits.{decimal}
-use Rattle.digits.proofs.Digits.{digits-most}
+use Rattle.digits.proofs.Digits.{number-length}
 use Rattle.digits.proofs.Meaning.{digits-length}
 use Rattle.digits.proofs.Pieces.{Stands, two, room-second, stands-as}
 use Rattle.event.specs.Event.{kind_of}
@@ -18,10 +18,7 @@ use Rattle.record.specs.Record.{most_events}
 use Rattle.playback.specs.Size.{event_line_size, any_line_size}
 use Rattle.playback.specs.Print.{event_line, event_lines, KnownKinds}
 
--- A number has at most twenty digits, and one below a power of ten at most so many.
-pub number-length : (n : ℕ) → length (decimal n) ≤ 20
-number-length n = digits-most 10 1 20 n
-
+-- A number below a power of ten has at most so many digits.
 digits_of : (n k : ℕ) → n < 10 ^ suc k → length (decimal n) ≤ suc k
 digits_of n k h = digits-length 10 1 20 n k (omega arith) h (omega arith)
 

@@ -22,6 +22,7 @@ use Rattle.buffers.proofs.Least.{least-both, least_first, least_above}
 use Rattle.claims.specs.Play.{answers_of, refusals_of}
 use Rattle.claims.proofs.Playing.{PlayedAll}
 use Rattle.digits.specs.Digits.{decimal}
+use Rattle.digits.proofs.Digits.{number-length}
 use Rattle.digits.proofs.Pieces.{Stands, two, room-first, room-second}
 use Rattle.digits.specs.Ascii.{ascii}
 use Rattle.record.specs.Record.{most_events}
@@ -29,7 +30,7 @@ use Rattle.playback.specs.Text.{minus}
 use Rattle.playback.specs.Size.{first_line_size, last_line_size, print_room, lines_room}
 use Rattle.playback.specs.Print.{first_line, event_lines, last_line, end_line, refused_line, lines_of, played_lines, KnownKinds, events_given, given_lines, lines_length, lines_into}
 use Rattle.playback.proofs.Room.{had-room, filled-as}
-use Rattle.playback.proofs.Printing.{Each, number-length, known-lines, any-lines, lines-first}
+use Rattle.playback.proofs.Printing.{Each, known-lines, any-lines, lines-first}
 
 sign-length : (below : Bool) → length (minus below) ≤ 1
 unfolding ascii

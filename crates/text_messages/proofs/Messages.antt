@@ -10,15 +10,11 @@ use lib.Dec.{eqb}
 use Rattle.buffers.specs.Filled.{filled, HasFirst}
 use Rattle.buffers.proofs.Stores.{sets-filled}
 use Rattle.digits.specs.Ascii.{ascii}
-use Rattle.digits.specs.Digits.{decimal}
-use Rattle.digits.proofs.Digits.{digits-most}
+use Rattle.digits.proofs.Digits.{number-length}
 use Rattle.digits.proofs.Pieces.{Stands}
 use Rattle.refusals.specs.Words.{words_of, words_size}
 use Rattle.refusals.proofs.Words.{words-most}
 use Rattle.text_messages.specs.Messages.{saying, why_words, at_line, too_long, refused_at, refused_with, refused, refused_in, message_size}
-
-number-length : (n : ℕ) → length (decimal n) ≤ 20
-number-length n = digits-most 10 1 20 n
 
 why-length : (why : ℕ) → length (why_words why) ≤ words_size
 unfolding ascii
