@@ -2,7 +2,7 @@
 use Prim.Native.Nat.{ℕ}
 use mathlib.Core.Path.{◌≡◌, refl}
 use mathlib.Core.Bool.{true}
-use Rattle.pic_source.proofs.Bools.{and_parts}
+use Rattle.std.proofs.lemmas.Bool.{and_parts}
 use Rattle.counters_timers.specs.Timers.{timers_sound}
 use Rattle.counters_timers.proofs.Soundness as timers
 use Rattle.counters_errors.specs.Errors.{errors_sound}

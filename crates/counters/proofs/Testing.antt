@@ -4,7 +4,7 @@ use mathlib.Core.Path.{◌≡◌}
 use mathlib.Core.Bool.{true, ◌&&◌}
 use lib.Dec.{leb, ltb}
 use borrow.Author.Tests.{leb-true, ltb-true}
-use Rattle.pic_source.proofs.Bools.{and_parts}
+use Rattle.std.proofs.lemmas.Bool.{and_parts}
 
 -- An address from one number up to another.
 pub in-range : (l a h : ℕ) → leb l a && ltb a h ≡ true → (l ≤ a) × (a < h)

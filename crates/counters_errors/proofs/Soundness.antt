@@ -4,7 +4,7 @@ use mathlib.Core.Path.{◌≡◌, refl}
 use mathlib.Core.Bool.{Bool, true, false, cond, ◌&&◌}
 use native.Mathlib.Omega.{arith}
 use borrow.Author.Tests.{leb-true, le-leb}
-use Rattle.pic_source.proofs.Bools.{and_parts}
+use Rattle.std.proofs.lemmas.Bool.{and_parts}
 use Rattle.counters_errors.specs.declared.ErrorCounter.{ErrorCounter}
 use Rattle.counters_errors.specs.declared.ErrorCounters.{ErrorCounters}
 use Rattle.counters_errors.specs.Errors.{threshold_in, held_threshold, held_of, error_sound, error_at, with_error, reset_errors, errors_sound, may_count, after_error, error_refused, error_counted, error_of}

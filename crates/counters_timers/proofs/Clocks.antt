@@ -3,7 +3,7 @@ use Prim.Native.Nat.{ℕ, zero, suc, ◌+◌, ◌*◌, ◌/◌, ◌%◌, ◌^◌
 use mathlib.Core.Path.{◌≡◌, refl, ap}
 use mathlib.Core.Logic.{◌⊎◌, inl, inr}
 use native.Mathlib.Omega.{arith}
-use Rattle.pic_source.proofs.Bools.{eq-cases}
+use Rattle.std.proofs.lemmas.Bool.{cases_eq}
 use Rattle.counters_timers.specs.declared.Timer.{Timer}
 use Rattle.counters_timers.specs.declared.Timers.{Timers}
 use Rattle.counters_timers.specs.Timers.{timer_at, with_timer, reset_timers, signal_bit, clock_of}
@@ -54,7 +54,7 @@ timer-other t (suc (suc i)) j u d = refl
 -- What is read of timer j is as before where the timer that was put reads as the old one did.
 pub register-stays : (t : Timers) (i j : ℕ) (u : Timer) (f : Timer → ℕ) → f u ≡ f (timer_at t i) → f (timer_at (with_timer t i u) j) ≡ f (timer_at t j)
 unfolding timer_at with_timer
-register-stays t i j u f e = go (eq-cases j i)
+register-stays t i j u f e = go (cases_eq j i)
   where
     own : (k : ℕ) → f u ≡ f (timer_at t k) → f (timer_at (with_timer t k u) k) ≡ f (timer_at t k)
     own zero h = h

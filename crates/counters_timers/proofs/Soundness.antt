@@ -5,7 +5,8 @@ use mathlib.Core.Bool.{Bool, true, false, cond}
 use native.Mathlib.Omega.{arith}
 use lib.ListN.{get_or}
 use borrow.Author.Tests.{leb-true, leb-false, ltb-true, lt-ltb, le-leb}
-use Rattle.pic_source.proofs.Bools.{and_parts, all-at}
+use Rattle.std.proofs.lemmas.Bool.{and_parts}
+use Rattle.pic_source.proofs.Bools.{all-at}
 use Rattle.counters_timers.specs.declared.Timer.{Timer}
 use Rattle.counters_timers.specs.declared.Timers.{Timers}
 use Rattle.counters_timers.specs.Timers.{timer_at, with_timer, reset_timers, timer_tests, timer_sound, timers_sound, signals, is_enabled, next_count, after_clock, clock_of}

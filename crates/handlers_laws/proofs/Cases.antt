@@ -8,7 +8,8 @@ use lib.Dec.{leb, eqb}
 use lib.IntN.{pos}
 use lib.Signed.{lt_z}
 use borrow.Author.Tests.{le-leb, lt-leb, eqb-true, eqb-false, not-true}
-use Rattle.pic_source.proofs.Bools.{and_parts, le-cases}
+use Rattle.std.proofs.lemmas.Bool.{and_parts}
+use Rattle.pic_source.proofs.Bools.{le-cases}
 use Rattle.event.specs.Event.{kind_of, address_of, shape_of}
 use Rattle.pic_registers.specs.Calls as registers
 use Rattle.pic_csrs.specs.Calls as csrs

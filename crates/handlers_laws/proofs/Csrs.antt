@@ -7,7 +7,8 @@ use mathlib.Core.Logic.{⊎_elim}
 use native.Mathlib.Omega.{arith}
 use lib.Dec.{eqb}
 use borrow.Author.Tests.{eqb-true, ne_eqb}
-use Rattle.pic_source.proofs.Bools.{never, or_cases}
+use Rattle.std.proofs.lemmas.Bool.{or_cases}
+use Rattle.pic_source.proofs.Bools.{never}
 use Rattle.pic.specs.Outcome as pic
 use Rattle.pic_csrs.specs.declared.Csr as controller
 use Rattle.pic_csrs.specs.declared.Csr.TheVariants as c

@@ -10,7 +10,8 @@ use lib.IntN.{pos}
 use lib.Signed.{lt_z}
 use borrow.Author.Tests.{eqb-true}
 use Rattle.pic_source.specs.declared.Rank.{Rank}
-use Rattle.pic_source.proofs.Bools.{and_parts, all-at}
+use Rattle.std.proofs.lemmas.Bool.{and_parts}
+use Rattle.pic_source.proofs.Bools.{all-at}
 use Rattle.pic.specs.declared.Controller.{Controller}
 use Rattle.pic.specs.Sound as pic
 use Rattle.pic.specs.Sources.{threshold_of}

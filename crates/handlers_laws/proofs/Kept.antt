@@ -20,7 +20,7 @@ use Rattle.pic_csrs.specs.Calls as csrs
 use Rattle.counters.specs.Csrs as counters
 use Rattle.counters.proofs.Soundness.{reset-sound, clock-sound, error-sound}
 use Rattle.counters.proofs.Writes.{written-sound}
-use Rattle.pic_source.proofs.Bools.{or_cases, eq-cases}
+use Rattle.std.proofs.lemmas.Bool.{or_cases, cases_eq}
 use Rattle.pic_laws.proofs.Kept.{sample-sound, sample-count, sample-current, store-sound, store-count, store-current, csr-write-sound, csr-write-count, csr-write-current, load_same, csr-read-same, capture-sound, capture-count, capture-current, current-sound, current-count, current-is}
 use Rattle.pic_laws.proofs.Kept as controllers
 use Rattle.pic_laws.proofs.Captures.{look-found, margin-over}
@@ -98,7 +98,7 @@ module _ (m : Machine) (r : sound_of m ≡ true) (h : m.service.mask ≡ 0 → �
   has-place = omega (arith, (facts m r).places, room m (facts m r) h g)
 
   taken_fine : (j : ℕ) → j < m.service.depth + 1 → Fine (source_count m.controller) (m.service.depth + 1) (taken m).service.stack j
-  taken_fine j l = go (eq-cases j m.service.depth)
+  taken_fine j l = go (cases_eq j m.service.depth)
     where
       go : (j ≡ m.service.depth) ⊎ (j ≡ m.service.depth → ⊥) → Fine (source_count m.controller) (m.service.depth + 1) (taken m).service.stack j
       go (inl e) = rw e (fine-stored m.service.stack m.service.depth (new_handler m) (source_count m.controller) (m.service.depth + 1) has-place new-stored)
@@ -151,7 +151,7 @@ module _ (m : Machine) (r : sound_of m ≡ true) (d : 0 < m.service.depth) (h : 
   over-place = omega (arith, (facts m r).places, (facts m r).few)
 
   over-fine : (j : ℕ) → j < m.service.depth → Fine (source_count m.controller) m.service.depth (set m.service.stack (m.service.depth - 1) h) j
-  over-fine j l = go (eq-cases j (m.service.depth - 1))
+  over-fine j l = go (cases_eq j (m.service.depth - 1))
     where
       go : (j ≡ m.service.depth - 1) ⊎ (j ≡ m.service.depth - 1 → ⊥) → Fine (source_count m.controller) m.service.depth (set m.service.stack (m.service.depth - 1) h) j
       go (inl e) = rw e (fine-stored m.service.stack (m.service.depth - 1) h (source_count m.controller) m.service.depth over-place over-stored)

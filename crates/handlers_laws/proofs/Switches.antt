@@ -12,7 +12,7 @@ use Rattle.pic.specs.Sound as pic
 use Rattle.pic.specs.Calls.{priority_order, current_rank}
 use Rattle.pic_laws.specs.Orders.{ordered}
 use Rattle.pic_registers.specs.Calls as registers
-use Rattle.pic_source.proofs.Bools.{or_cases}
+use Rattle.std.proofs.lemmas.Bool.{or_cases}
 use Rattle.pic_laws.proofs.Kept.{store-sound, sample-current, store-current, csr-write-current, load_same, csr-read-same, capture-current}
 use Rattle.pic_laws.proofs.Orders.{store-order, store-refusal, ordered-is, ordered-count, ordered_same, other-order, turned, power-on-order, power-on-ranks}
 use Rattle.handlers.specs.declared.Machine.{Machine}

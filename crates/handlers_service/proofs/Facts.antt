@@ -1,7 +1,8 @@
 -- What soundness of mask and stack says, in numbers: the Bool of the rules taken apart and put together.
 use Rattle.std.proofs.Common.{◌≡◌, ℕ, ◌<◌, ◌≤◌, true, eqb, ◌⊎◌, length, get_or, inl, inr, ⊎_elim, eq-eqb, eqb-true, le-leb, leb-true}
 use Rattle.pic_source.specs.declared.Rank.{Rank}
-use Rattle.pic_source.proofs.Bools.{or_cases, or-intro, all-at}
+use Rattle.std.proofs.lemmas.Bool.{or_cases}
+use Rattle.pic_source.proofs.Bools.{or-intro, all-at}
 use Rattle.handlers_stack.specs.Stacks.{level_of}
 use Rattle.handlers_stack.proofs.Stacks.{Fine, each, each_back}
 use Rattle.handlers_service.specs.declared.Service.{Service}

@@ -11,7 +11,8 @@ use lib.ListN.{length, set}
 use lib.Seq.{get_or-set_same, get_or-set_other}
 use lib.Dec.{ltb, eqb}
 use borrow.Author.Tests.{leb-true, ltb-true, eqb-true, le-leb, lt-ltb, eq-eqb, ne_eqb}
-use Rattle.pic_source.proofs.Bools.{and_parts, or_cases, or-intro, eq-cases, all-at}
+use Rattle.std.proofs.lemmas.Bool.{and_parts, or_cases, cases_eq}
+use Rattle.pic_source.proofs.Bools.{or-intro, all-at}
 use Rattle.handlers_stack.specs.declared.Handler.{Handler}
 use Rattle.pic_source.specs.declared.Rank.{Rank}
 use Rattle.handlers_stack.specs.Stacks.{blank, handler_tests, handler_sound, sound_over, handler_at, below_of, sound_at, handlers_sound, level_of}
@@ -88,7 +89,7 @@ module _ (n depth : ℕ) (stack : List Handler) where
   each zero e j h = absurd (omega arith)
   each (suc k) e j h =
       let p = and_parts (handlers_sound n depth stack k) (sound_at n depth stack k) e in
-      go (fine n depth stack k p.1) (λ l. each k p.0 j l) (eq-cases j k)
+      go (fine n depth stack k p.1) (λ l. each k p.0 j l) (cases_eq j k)
     where
       go : Fine n depth stack k → (j < k → Fine n depth stack j) → (j ≡ k) ⊎ (j ≡ k → ⊥) → Fine n depth stack j
       go f i (inl z) = rw z f

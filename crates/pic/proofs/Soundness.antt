@@ -8,7 +8,8 @@ use Rattle.pic.specs.Fields.{with_scalars}
 use Rattle.pic.specs.Sources.{field_at, rank_at, enable_at, trigger_at, polarity_at, line_at, latch_at, threshold_of, current_of}
 use Rattle.pic.specs.Calls.{meihap_of}
 use Rattle.pic.specs.Sound.{place_tests, source_sound_at, sources_sound, sound_tests, sound_of, source_tests, source_sound}
-use Rattle.pic_source.proofs.Bools.{and_parts, or_cases, eq-cases, all-at}
+use Rattle.std.proofs.lemmas.Bool.{and_parts, or_cases, cases_eq}
+use Rattle.pic_source.proofs.Bools.{all-at}
 use Rattle.pic_source.proofs.Mirror.{mirror-small}
 
 -- An array with a place for each of the n sources, whose values at the sources are at most m.
@@ -24,7 +25,7 @@ column-set {n} {m} {l} s v h c = record { long = rw (length-set l s v) c.long; e
     at t a b = ⊎_elim
         (λ e. rw (e, get_or-set_same l s v 0 (omega (arith, c.long))) h)
         (λ e. rw (get_or-set_other l s t v 0 e) (c.each t a b))
-        (eq-cases t s)
+        (cases_eq t s)
 
 -- Field, enable, type, polarity, line and latch of each of n sources are in range.
 pub record Columns (n : ℕ) (f e t p l a : List ℕ) : Type 0 where

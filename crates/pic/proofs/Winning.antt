@@ -6,7 +6,8 @@ use Rattle.pic_comparator.specs.declared.Winner.{Winner}
 use Rattle.pic.specs.Sources.{rank_at, enable_at, pending_at, eligible_at, entry_at, winner_to, winner_of, Eligible, Before, IsWinner, is_eligible}
 use Rattle.pic_comparator.specs.Comparator.{no_winner, better_of, Entered}
 use Rattle.pic_comparator.proofs.Comparing.{passes, stays, neutral, entry-eligible, entry-none, entry-entered}
-use Rattle.pic_source.proofs.Bools.{never, and_parts, eq-cases}
+use Rattle.std.proofs.lemmas.Bool.{and_parts, cases_eq}
+use Rattle.pic_source.proofs.Bools.{never}
 use Rattle.pic.proofs.Soundness.{Sound, rank-small}
 
 -- An eligible source is enabled, pending, and of rank 1 or more.
@@ -20,7 +21,7 @@ eligible-parts c s e =
 module _ (c : Controller) (n : ℕ) where
   -- One of the sources 1 to n + 1 is the last, or one of the others.
   split : (s : ℕ) → Eligible c (suc n) s → (s ≡ suc n) ⊎ Eligible c n s
-  split s h = ⊎_elim (λ e. inl e) (λ e. inr (record { least = h.least; most = omega (arith, h.most); eligible = h.eligible })) (eq-cases s (suc n))
+  split s h = ⊎_elim (λ e. inl e) (λ e. inr (record { least = h.least; most = omega (arith, h.most); eligible = h.eligible })) (cases_eq s (suc n))
 
   more : (s : ℕ) → Eligible c n s → Eligible c (suc n) s
   more s h = record { least = h.least; most = omega (arith, h.most); eligible = h.eligible }
@@ -50,7 +51,7 @@ module _ (c : Controller) (n : ℕ) where
           ⊎_elim
           (λ z. let f : (rank_at c s).0 ≡ w.rank.0 = ap (λ (i : ℕ). (rank_at c i).0) z ∙ sym (ap (λ (r : Rank). r.0) k.ranked) in omega arith)
           (λ z. ⊎_elim (λ f. omega arith) (λ f. omega (arith, f.0)) (k.best s b z))
-          (eq-cases s w.source)
+          (cases_eq s w.source)
       lower s b (inr k) = absurd (k.none s b)
 
   -- The last source is eligible, and of no higher rank.
@@ -61,7 +62,7 @@ module _ (c : Controller) (n : ℕ) where
       behind : (s : ℕ) → s ≡ suc n → Before c w s
       behind s z =
           let f : (rank_at c s).0 ≤ w.rank.0 = rw z l in
-          ⊎_elim (λ g. inr (g, omega (arith, h.eligible.most))) (λ g. inl (omega (arith, g))) (eq-cases (rank_at c s).0 w.rank.0)
+          ⊎_elim (λ g. inr (g, omega (arith, h.eligible.most))) (λ g. inl (omega (arith, g))) (cases_eq (rank_at c s).0 w.rank.0)
   left w e l (inr h) =
       let z : w.rank.0 ≡ 0 = ap (λ (v : Winner). v.rank.0) h.is_none in
       absurd (omega (arith, (eligible-parts c (suc n) e).2))

@@ -10,7 +10,7 @@ use lib.Bits.{bit_and, bit_or, bit_xor, and_shr, or_shr, xor_shr, and_mod, or_mo
 use lib.Dec.{eqb, lit<}
 use lib.Pow.{pow_pos, shl_exact}
 use borrow.Author.Tests.{eq-eqb, ne_eqb}
-use Rattle.pic_source.proofs.Bools.{eq-cases}
+use Rattle.std.proofs.lemmas.Bool.{cases_eq}
 use Rattle.pic_bits.specs.Bits.{bit_of, has_bit}
 
 -- Bit y + 1 of a word is bit y of its half.
@@ -108,7 +108,7 @@ power-off (suc y) zero n = bit-zero (2 ^ suc y) ∙ power-even y
 power-off (suc y) (suc z) n = bit-half (2 ^ suc y) z ∙ ap (λ (x : ℕ). bit_of x z) (power-half y) ∙ power-off y z (λ e. n (ap suc e))
 
 pub has-power : (y z : ℕ) → has_bit (2 ^ y) z ≡ eqb z y
-has-power y z = go (eq-cases z y)
+has-power y z = go (cases_eq z y)
   where
     go : (z ≡ y) ⊎ (z ≡ y → ⊥) → has_bit (2 ^ y) z ≡ eqb z y
     go (inl e) = rw (e, power-on y, eq-eqb y y refl)

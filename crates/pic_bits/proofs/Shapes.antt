@@ -13,7 +13,8 @@ use mir.Val.{Val}
 use denote.Array.{Array, each}
 use denote.Plain.{UInt}
 use denote.Shadow.{shadow}
-use Rattle.pic_source.proofs.Bools.{eq-cases, le-cases}
+use Rattle.std.proofs.lemmas.Bool.{cases_eq}
+use Rattle.pic_source.proofs.Bools.{le-cases}
 use Rattle.pic_bits.specs.Tables.{table_of, Shaped}
 use Rattle.pic_bits.proofs.Tables.{table-length, table_at, table-out}
 
@@ -39,7 +40,7 @@ shaped m xs vs g =
 
 -- What is read after a store is what was stored, or what was there.
 read-stored : {A : Type 0} (l : List A) (i : ℕ) (a : A) (j : ℕ) (d : A) → (get_or (set l i a) j d ≡ a) ⊎ (get_or (set l i a) j d ≡ get_or l j d)
-read-stored l i a j d = go (eq-cases j i) (le-cases (length l) i)
+read-stored l i a j d = go (cases_eq j i) (le-cases (length l) i)
   where
     go : (j ≡ i) ⊎ (j ≡ i → ⊥) → (length l ≤ i) ⊎ (i < length l) → (get_or (set l i a) j d ≡ a) ⊎ (get_or (set l i a) j d ≡ get_or l j d)
     go (inr n) k = inr (get_or-set_other l i j a d n)
@@ -51,7 +52,7 @@ pub store-shape : (m : ℕ) (b : List (List ℕ)) (r x v : ℕ) → Shaped m b �
 store-shape m b r x v h k =
     record {
       many = length-set b r (set (get_or b r []) x v) ∙ h.many;
-      rows = λ i l. row i l (eq-cases i r);
+      rows = λ i l. row i l (cases_eq i r);
       words = λ i j. word i j (read-stored b r (set (get_or b r []) x v) i []) (read-stored (get_or b r []) x v j 0);
     }
   where

@@ -9,7 +9,7 @@ use native.Mathlib.Omega.{arith}
 use lib.Bits.{bit_or, or_shifted_r}
 use lib.Dec.{eqb}
 use lib.Pow.{pow-add, pow_pos}
-use Rattle.pic_source.proofs.Bools.{eq-cases}
+use Rattle.std.proofs.lemmas.Bool.{cases_eq}
 use Rattle.pic_bits.specs.Bits.{bit_of, has_bit, join_of, word_to, BitOfWord, WordOfItsBits}
 use Rattle.pic_bits.proofs.Bits.{zero-or-one, bit-cases, same_bits, one_shifted}
 
@@ -46,7 +46,7 @@ word_lt on (suc n) = rw add-one at (join-lt (word_to on n) n (on n) (word_lt on 
 pub bit-of-word : BitOfWord
 unfolding word_to
 bit-of-word on zero y h = absurd (omega arith)
-bit-of-word on (suc n) y h = go (λ l. bit-of-word on n y l) (eq-cases y n)
+bit-of-word on (suc n) y h = go (λ l. bit-of-word on n y l) (cases_eq y n)
   where
     go : (y < n → bit_of (word_to on n) y ≡ cond (on y) 1 0) → (y ≡ n) ⊎ (y ≡ n → ⊥) → bit_of (join_of (word_to on n) n (on n)) y ≡ cond (on y) 1 0
     go i (inl e) = rw e (join-at (word_to on n) n (on n) (word_lt on n))

@@ -27,7 +27,7 @@ use Rattle.pic_registers.specs.Calls.{sample_of, load_of, store_of}
 use Rattle.pic_csrs.specs.Addresses.{csr_at, is_csr}
 use Rattle.pic_csrs.specs.Values.{csr_value, csr_written}
 use Rattle.pic_csrs.specs.Calls.{csr_read_of, written_to, csr_write_of}
-use Rattle.pic_source.proofs.Bools.{and_parts}
+use Rattle.std.proofs.lemmas.Bool.{and_parts}
 use Rattle.pic_source.proofs.Mirror.{mirror-small, rank-of-field, field-written}
 use Rattle.pic.proofs.Soundness.{Column, Base, Ranges, Sound, facts, sound, scalars-sound}
 use Rattle.pic.proofs.Winning.{winner-small}

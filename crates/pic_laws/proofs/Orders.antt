@@ -16,7 +16,7 @@ use Rattle.pic_laws.specs.Orders.{ordered, Turned, AllRanks}
 use Rattle.pic_registers.specs.Offsets.{register_at, page_register, offset_refusal}
 use Rattle.pic_registers.specs.Registers.{written_of}
 use Rattle.pic_registers.specs.Calls.{store_of}
-use Rattle.pic_source.proofs.Bools.{and_parts}
+use Rattle.std.proofs.lemmas.Bool.{and_parts}
 use Rattle.pic_source.proofs.Mirror.{mirror-other}
 use Rattle.pic.proofs.Soundness.{facts}
 

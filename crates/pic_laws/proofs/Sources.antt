@@ -28,7 +28,8 @@ use Rattle.pic_registers.specs.Offsets.{register_at, offset_refusal}
 use Rattle.pic_registers.specs.Calls.{sample_of, store_of}
 use Rattle.pic_csrs.specs.Addresses.{csr_at}
 use Rattle.pic_csrs.specs.Calls.{csr_write_of}
-use Rattle.pic_source.proofs.Bools.{never, eq-cases}
+use Rattle.std.proofs.lemmas.Bool.{cases_eq}
+use Rattle.pic_source.proofs.Bools.{never}
 use Rattle.pic.proofs.Soundness.{facts}
 use Rattle.pic_registers.proofs.Offsets.{offset-register, register-offset, register-valid, meipl-at, meipl-accepted, aligned}
 use Rattle.pic_registers.proofs.Follow.{Follows, sample-latch, store-latch, store-field, store-scalars}
@@ -135,7 +136,7 @@ module _ (c : Controller) (e : sound_of c ≡ true) (s : ℕ) (a : 1 ≤ s) (b :
   is-source = rw (le-leb 1 s a, le-leb s c.sources here)
 
   clears-at : (o : ℕ) → o % 4 ≡ 0 → clears (register_at c.sources o) s ≡ eqb o (0x5000 + 4 * s)
-  clears-at o m = go (eq-cases o (0x5000 + 4 * s))
+  clears-at o m = go (cases_eq o (0x5000 + 4 * s))
     where
       other : (t : Bool) → clears (register_at c.sources o) s ≡ t → (o ≡ 0x5000 + 4 * s → ⊥) → clears (register_at c.sources o) s ≡ false
       other false f d = f

@@ -9,7 +9,8 @@ use lib.Dec.{leb}
 use lib.ListN.{replicate}
 use borrow.Author.Tests.{eq-eqb, ne_eqb, le-leb, lt-leb}
 use Rattle.pic_source.specs.declared.Rank.{Rank}
-use Rattle.pic_source.proofs.Bools.{eq-cases, le-cases}
+use Rattle.std.proofs.lemmas.Bool.{cases_eq}
+use Rattle.pic_source.proofs.Bools.{le-cases}
 use Rattle.pic_bits.specs.Bits.{join_of, word_to}
 use Rattle.pic_bits.specs.Tables.{table_of}
 use Rattle.pic.specs.declared.Controller.{Controller}
@@ -33,7 +34,7 @@ module _ (c : Controller) where
   -- What one turn does to the bit of t in set r.
   turned : (k s : ℕ) → s ≡ suc k → (r t : ℕ)
       → differs (differs (entered k r t) (false && is_in s (rank_at c s).0 t r)) (ready_at c s && is_in s (rank_at c s).0 t r) ≡ entered s r t
-  turned k s e r t = go (eq-cases t s)
+  turned k s e r t = go (cases_eq t s)
     where
       old : (a w : Bool) → differs (differs a false) (w && false) ≡ a
       old true true = refl

@@ -9,7 +9,8 @@ use lib.Dec.{eqb}
 use lib.ListN.{get_or}
 use borrow.Author.Tests.{eq-eqb, ne_eqb}
 use Rattle.pic_source.specs.Sources.{is_source}
-use Rattle.pic_source.proofs.Bools.{eq-cases, le-cases}
+use Rattle.std.proofs.lemmas.Bool.{cases_eq}
+use Rattle.pic_source.proofs.Bools.{le-cases}
 use Rattle.pic_source.proofs.Mirror.{mirror-small, mirror-other}
 use Rattle.pic_source.proofs.Ranges.{source-range}
 use Rattle.pic_bits.specs.Bits.{source_of}
@@ -40,7 +41,7 @@ unfolding ready_at
 switched-belongs c h r s l = go (is_source c.sources s) refl
   where
     same : (a b p q : ℕ) → a ≤ 15 → p ≡ 15 - r → q ≡ 15 - a → eqb p a ≡ eqb r q
-    same a b p q k e f = ⊎_elim (λ z. eq-eqb p a z ∙ sym (eq-eqb r q (omega (arith, z, e, f, l, k)))) (λ z. ne_eqb p a z ∙ sym (ne_eqb r q (λ y. z (omega (arith, y, e, f, l, k))))) (eq-cases p a)
+    same a b p q k e f = ⊎_elim (λ z. eq-eqb p a z ∙ sym (eq-eqb r q (omega (arith, z, e, f, l, k)))) (λ z. ne_eqb p a z ∙ sym (ne_eqb r q (λ y. z (omega (arith, y, e, f, l, k))))) (cases_eq p a)
 
     go : (t : Bool) → is_source c.sources s ≡ t → belongs c (15 - r) s ≡ belongs (switched c) r s
     go false e = rw e
@@ -69,7 +70,7 @@ unfolding fresh_of
 others-fresh c d s h r a b = row (le-cases 16 r)
   where
     same : (t : ℕ) → belongs d r t ≡ belongs c r t
-    same t = ⊎_elim (λ e. rw e (apart d r s b ∙ sym (apart c r s a))) (λ n. sym (h r t n)) (eq-cases t s)
+    same t = ⊎_elim (λ e. rw e (apart d r s b ∙ sym (apart c r s a))) (λ n. sym (h r t n)) (cases_eq t s)
 
     row : (16 ≤ r) ⊎ (r < 16) → get_or (sets_by (belongs d)) r [] ≡ get_or (sets_by (belongs c)) r []
     row (inl l) = table-out [] 16 _ r l ∙ sym (table-out [] 16 _ r l)

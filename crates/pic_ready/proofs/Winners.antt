@@ -10,7 +10,8 @@ use lib.ListN.{get_or}
 use borrow.Author.Tests.{eqb-true, eq-eqb, le-leb}
 use Rattle.pic_source.specs.Ranks.{rank}
 use Rattle.pic_source.specs.Sources.{is_source}
-use Rattle.pic_source.proofs.Bools.{never, and_parts, eq-cases, le-cases}
+use Rattle.std.proofs.lemmas.Bool.{and_parts, cases_eq}
+use Rattle.pic_source.proofs.Bools.{never, le-cases}
 use Rattle.pic_source.proofs.Mirror.{mirror-small}
 use Rattle.pic_source.proofs.Ranges.{source-range}
 use Rattle.pic_comparator.specs.declared.Winner.{Winner}
@@ -56,7 +57,7 @@ module _ (c : Controller) (h : Sound c) where
   read-winner : (w : Winner) → ReadFrom (fresh_of c) w → HasWinner c c.sources w
   read-winner w f =
       let p = belongs-eligible w.rank.0 w.source f.above (sym (member c w.rank.0 w.source (omega (arith, f.most)) f.number) ∙ f.member) in
-      record { eligible = p.0; ranked = sym (ap rank p.1); best = λ s e d. best s e d (eq-cases (rank_at c s).0 w.rank.0) (le-cases (rank_at c s).0 w.rank.0) }
+      record { eligible = p.0; ranked = sym (ap rank p.1); best = λ s e d. best s e d (cases_eq (rank_at c s).0 w.rank.0) (le-cases (rank_at c s).0 w.rank.0) }
     where
       best : (s : ℕ) → Eligible c c.sources s → (s ≡ w.source → ⊥) → ((rank_at c s).0 ≡ w.rank.0) ⊎ ((rank_at c s).0 ≡ w.rank.0 → ⊥)
           → ((rank_at c s).0 ≤ w.rank.0) ⊎ (w.rank.0 < (rank_at c s).0) → Before c w s
@@ -93,7 +94,7 @@ module _ (c : Controller) (n : ℕ) where
       clash (inr p) (inr q) = omega (arith, p.1, q.1)
 
   pub winner-one : (v w : Winner) → IsWinner c n v → IsWinner c n w → v ≡ w
-  winner-one v w (inl a) (inl b) = go (eq-cases v.source w.source)
+  winner-one v w (inl a) (inl b) = go (cases_eq v.source w.source)
     where
       go : (v.source ≡ w.source) ⊎ (v.source ≡ w.source → ⊥) → v ≡ w
       go (inl e) = let f : v.rank ≡ w.rank = a.ranked ∙ ap (rank_at c) e ∙ sym b.ranked in rw (e, f)

@@ -19,7 +19,7 @@ use Rattle.pic.specs.Sources.{field_at, polarity_at, line_at, latch_at, settle_a
 use Rattle.pic_bits.specs.Bits.{source_of}
 use Rattle.pic_registers.specs.Offsets.{is_register}
 use Rattle.pic_registers.specs.Registers.{sampled, read_of, written_of, clears}
-use Rattle.pic_source.proofs.Bools.{eq-cases}
+use Rattle.std.proofs.lemmas.Bool.{cases_eq}
 use Rattle.pic_source.proofs.Ranges.{source-range}
 use Rattle.pic.proofs.Soundness.{Sound}
 use Rattle.pic_registers.proofs.Words.{line-sampled, line_kept, latch-sampled, latch-kept}
@@ -34,7 +34,7 @@ in-word c x v y h b i = rw (latch-sampled c x v y b h.columns.latch.long i, line
 
 pub sample-latch : (c : Controller) (x v : ℕ) → Sound c → (s : ℕ) → 1 ≤ s → s ≤ c.sources
     → latch_at (sampled c x v) s ≡ latch_after (line_at (sampled c x v) s) (polarity_at (sampled c x v) s) (latch_at c s)
-sample-latch c x v h s a b = go (eq-cases (s / 32) x)
+sample-latch c x v h s a b = go (cases_eq (s / 32) x)
   where
     go : (s / 32 ≡ x) ⊎ (s / 32 ≡ x → ⊥) → Follows (sampled c x v) s (latch_at c s)
     go (inl e) =
@@ -47,14 +47,14 @@ sample-latch c x v h s a b = go (eq-cases (s / 32) x)
 settled_at : (d : Controller) (t s : ℕ) → t < length d.latch
     → ((s ≡ t → ⊥) → latch_after (line_at d s) (polarity_at d s) (latch_at d s) ≡ latch_at d s)
     → Follows (settle_at d t) s (latch_at d s)
-settled_at d t s l h = go (eq-cases s t)
+settled_at d t s l h = go (cases_eq s t)
   where
     go : (s ≡ t) ⊎ (s ≡ t → ⊥) → Follows (settle_at d t) s (latch_at d s)
     go (inl e) = rw (e, get_or-set_same d.latch t (latch_after (line_at d t) (polarity_at d t) (latch_at d t)) 0 l)
     go (inr n) = rw (get_or-set_other d.latch t s (latch_after (line_at d t) (polarity_at d t) (latch_at d t)) 0 n) (sym (h n))
 
 cleared : (l : List ℕ) (t s : ℕ) → t < length l → get_or (set l t 0) s 0 ≡ cond (eqb t s) 0 (get_or l s 0)
-cleared l t s h = go (eq-cases t s)
+cleared l t s h = go (cases_eq t s)
   where
     go : (t ≡ s) ⊎ (t ≡ s → ⊥) → get_or (set l t 0) s 0 ≡ cond (eqb t s) 0 (get_or l s 0)
     go (inl e) = rw (eq-eqb t s e, ← e, get_or-set_same l t 0 0 h)

@@ -14,7 +14,8 @@ use Rattle.pic_bits.specs.Bits.{bit_of, source_of}
 use Rattle.pic_bits.proofs.Words.{bit-of-word}
 use Rattle.pic_registers.specs.Words.{places_to, places_of_word}
 use Rattle.pic_registers.specs.Registers.{latch_sampled, sampled, pending_bit, pending_word}
-use Rattle.pic_source.proofs.Bools.{never, eq-cases}
+use Rattle.std.proofs.lemmas.Bool.{cases_eq}
+use Rattle.pic_source.proofs.Bools.{never}
 use Rattle.pic_source.proofs.Ranges.{source-range}
 
 -- Bit Y of meipX is the pending bit of source 32 × X + Y, and 0 where that is no source.
@@ -36,7 +37,7 @@ module _ (n : ℕ) (l : List ℕ) (x : ℕ) (f : ℕ → ℕ) where
   in-to : (k y : ℕ) → y < k → n < length l → is_source n (source_of x y) ≡ true → get_or (places_to n l x f k) (source_of x y) 0 ≡ f y
   unfolding places_to
   in-to zero y h b e = absurd (omega arith)
-  in-to (suc k) y h b e = go (λ a. in-to k y a b e) (eq-cases y k) (is_source n (source_of x k)) refl
+  in-to (suc k) y h b e = go (λ a. in-to k y a b e) (cases_eq y k) (is_source n (source_of x k)) refl
     where
       go : (y < k → get_or (places_to n l x f k) (source_of x y) 0 ≡ f y) → (y ≡ k) ⊎ (y ≡ k → ⊥) → (t : Bool) → is_source n (source_of x k) ≡ t
           → get_or (cond t (set (places_to n l x f k) (source_of x k) (f k)) (places_to n l x f k)) (source_of x y) 0 ≡ f y

@@ -12,7 +12,8 @@ use lib.Pow.{pow-lt}
 use lib.Seq.{get_or-set_same, get_or-set_other}
 use borrow.Author.Tests.{eq-eqb, ne_eqb, eqb-true}
 use Rattle.pic_source.specs.declared.Rank.{Rank}
-use Rattle.pic_source.proofs.Bools.{never, and_parts, eq-cases}
+use Rattle.std.proofs.lemmas.Bool.{and_parts, cases_eq}
+use Rattle.pic_source.proofs.Bools.{never}
 use Rattle.pic_bits.specs.Bits.{bit_of, has_bit, is_member, member_of, source_of}
 use Rattle.pic_bits.specs.Tables.{Shaped}
 use Rattle.pic_bits.proofs.Bits.{bit-cases, toggle-same, toggle-other}
@@ -72,7 +73,7 @@ module _ (sets : List (List ℕ)) (h : Shaped 16 sets) (r s : ℕ) where
 
     pub flip-at : goal
     unfolding flipped_at
-    flip-at = go (eq-cases q r) (eq-cases (t / 32) (s / 32)) (eq-cases (t % 32) (s % 32))
+    flip-at = go (cases_eq q r) (cases_eq (t / 32) (s / 32)) (cases_eq (t % 32) (s % 32))
       where
         go : (q ≡ r) ⊎ (q ≡ r → ⊥) → (t / 32 ≡ s / 32) ⊎ (t / 32 ≡ s / 32 → ⊥) → (t % 32 ≡ s % 32) ⊎ (t % 32 ≡ s % 32 → ⊥) → goal
         go (inr d) i j = stays (ap (λ (row : List ℕ). is_member row t) (get_or-set_other sets r q _ [] d)) (λ e f. d f)
@@ -153,7 +154,7 @@ module _ (sets : List (List ℕ)) (h : Shaped 16 sets) (rank : ℕ → Rank) (x 
 
     to-hit : (k : ℕ) → k ≤ 32 → t / 32 ≡ x → t % 32 < k → hit k
     to-hit zero b e c = absurd (omega arith)
-    to-hit (suc k) b e c = go (eq-cases (t % 32) k) (λ d. to-hit k (omega arith) e d)
+    to-hit (suc k) b e c = go (cases_eq (t % 32) k) (λ d. to-hit k (omega arith) e d)
       where
         go : (t % 32 ≡ k) ⊎ (t % 32 ≡ k → ⊥) → (t % 32 < k → hit k) → hit (suc k)
         go (inr d) i = step_other k (λ f. d (omega arith)) ∙ i (omega (arith, d))
@@ -165,7 +166,7 @@ module _ (sets : List (List ℕ)) (h : Shaped 16 sets) (rank : ℕ → Rank) (x 
 
 pub word-member : WordMember
 unfolding flipped_word
-word-member sets h rank x w q t a l = go (eq-cases (t / 32) x)
+word-member sets h rank x w q t a l = go (cases_eq (t / 32) x)
   where
     go : (t / 32 ≡ x) ⊎ (t / 32 ≡ x → ⊥)
         → in_set (flipped_to sets rank x w 32) q t ≡ differs (in_set sets q t) (eqb (t / 32) x && (has_bit w (t % 32) && eqb q (rank t).0))

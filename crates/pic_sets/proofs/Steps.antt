@@ -5,7 +5,8 @@ use mathlib.Core.List.{List}
 use mathlib.Core.Logic.{◌⊎◌, inl, inr}
 use native.Mathlib.Omega.{arith}
 use Rattle.pic_source.specs.declared.Rank.{Rank}
-use Rattle.pic_source.proofs.Bools.{eq-cases, le-cases}
+use Rattle.std.proofs.lemmas.Bool.{cases_eq}
+use Rattle.pic_source.proofs.Bools.{le-cases}
 use Rattle.pic_bits.specs.Bits.{bit_of, source_of, Lowest}
 use Rattle.pic_bits.proofs.Bits.{none-of-zero, clear-same, clear-other}
 use Rattle.pic_sets.specs.Sets.{flipped_at, flipped_if, flipped_to, flipped_word}
@@ -44,7 +45,7 @@ module _ (sets : List (List ℕ)) (rank : ℕ → Rank) (x w : ℕ) where
   turned left k t now d l =
       record {
         within = omega (arith, l.within);
-        low = λ y a. lows y a (eq-cases y t);
+        low = λ y a. lows y a (cases_eq y t);
         high = λ y a. clear-other t y left l.on (λ i. absurd (omega arith)) ∙ d.high y (omega (arith, a, above));
         is = ap (λ (s : List (List ℕ)). flipped_at s (rank (source_of x t)).0 (source_of x t)) (d.is ∙ passed) ∙ sym (to-on t (sym (d.high t above) ∙ l.on)) ∙ ap (flipped_to sets rank x w) plus;
       }

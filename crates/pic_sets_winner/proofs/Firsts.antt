@@ -6,7 +6,8 @@ use mathlib.Core.List.{List}
 use mathlib.Core.Logic.{◌⊎◌, inl, inr, ⊎_elim}
 use native.Mathlib.Omega.{arith}
 use lib.ListN.{get_or}
-use Rattle.pic_source.proofs.Bools.{never, le-cases, eq-cases}
+use Rattle.std.proofs.lemmas.Bool.{cases_eq}
+use Rattle.pic_source.proofs.Bools.{never, le-cases}
 use Rattle.pic_bits.specs.Bits.{bit_of, is_member, member_of, Lowest}
 use Rattle.pic_bits.proofs.Bits.{none-of-zero}
 use Rattle.pic_sets_winner.specs.Highest.{lowest_from, lowest_of}
@@ -31,7 +32,7 @@ module _ (on : ℕ → Bool) where
             least = omega (arith, i.least);
             most = omega (arith, i.most);
             found = λ l. i.found (omega (arith, l));
-            before = λ u a b. ⊎_elim (λ p. ap on p ∙ e) (λ n. i.before u (omega (arith, a, n)) b) (eq-cases u s);
+            before = λ u a b. ⊎_elim (λ p. ap on p ∙ e) (λ n. i.before u (omega (arith, a, n)) b) (cases_eq u s);
           }
 
   -- There is one such number.

@@ -8,7 +8,7 @@ use native.Mathlib.Omega.{arith}
 use lib.ListN.{get_or}
 use borrow.Author.Tests.{eqb-true, eqb-false}
 use Rattle.pic_source.specs.Ranks.{rank}
-use Rattle.pic_source.proofs.Bools.{eq-cases}
+use Rattle.std.proofs.lemmas.Bool.{cases_eq}
 use Rattle.pic_comparator.specs.declared.Winner.{Winner}
 use Rattle.pic_bits.specs.Bits.{is_member}
 use Rattle.pic_sets_winner.specs.Highest.{lowest_of, is_empty, highest_to, ReadFrom, NothingIn, HighestIs}
@@ -40,7 +40,7 @@ module _ (sets : List (List ℕ)) where
   Above r = (q s : ℕ) → r < q → q ≤ 15 → s < 256 → is_member (set q) s ≡ false
 
   above_more : (r : ℕ) → is_empty (set (suc r)) ≡ true → Above (suc r) → Above r
-  above_more r e h q s a b l = ⊎_elim (λ p. ap (λ (i : ℕ). is_member (set i) s) p ∙ empty-none (suc r) s e l) (λ n. h q s (omega (arith, a, n)) b l) (eq-cases q (suc r))
+  above_more r e h q s a b l = ⊎_elim (λ p. ap (λ (i : ℕ). is_member (set i) s) p ∙ empty-none (suc r) s e l) (λ n. h q s (omega (arith, a, n)) b l) (cases_eq q (suc r))
 
   found : (r : ℕ) → suc r ≤ 15 → Above (suc r) → is_empty (set (suc r)) ≡ false → ReadFrom sets (record { source = lowest_of (set (suc r)); rank = rank (suc r) })
   found r l h e =

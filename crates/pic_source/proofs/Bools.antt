@@ -6,36 +6,19 @@ use mathlib.Core.List.{List, [], ◌∷◌}
 use mathlib.Core.Logic.{◌⊎◌, inl, inr, ⊎_elim}
 use native.Mathlib.Omega.{arith}
 use lib.ListN.{get_or}
-use lib.Dec.{leb, eqb}
-use borrow.Author.Tests.{leb-true, leb-false, eqb-true, eqb-false}
+use Rattle.std.proofs.lemmas.Bool.{and_parts, cases_lt}
 use Rattle.pic_source.specs.Tests.{all_hold, all_from}
 
 pub never : {A : Type 0} → false ≡ true → A
 never e = let z : ◌≡◌ {A = ℕ} 0 1 = cc in absurd (omega arith)
-
-pub and_parts : (a b : Bool) → a && b ≡ true → (a ≡ true) × (b ≡ true)
-and_parts true b e = (refl, e)
-and_parts false b e = never e
-
-pub or_cases : (a b : Bool) → a || b ≡ true → (a ≡ true) ⊎ (b ≡ true)
-or_cases true b e = inl refl
-or_cases false b e = inr e
 
 pub or-intro : (a b : Bool) → (a ≡ true) ⊎ (b ≡ true) → (a || b) ≡ true
 or-intro true b h = refl
 or-intro false b (inl h) = never h
 or-intro false b (inr h) = h
 
--- A test is true or false, with the equation.
-pub decided : (t : Bool) → (t ≡ true) ⊎ (t ≡ false)
-decided true = inl refl
-decided false = inr refl
-
 pub le-cases : (a b : ℕ) → (a ≤ b) ⊎ (b < a)
-le-cases a b = ⊎_elim (λ e. inl (leb-true a b e)) (λ e. inr (leb-false a b e)) (decided (leb a b))
-
-pub eq-cases : (a b : ℕ) → (a ≡ b) ⊎ (a ≡ b → ⊥)
-eq-cases a b = ⊎_elim (λ e. inl (eqb-true a b e)) (λ e. inr (eqb-false a b e)) (decided (eqb a b))
+le-cases a b = ⊎_elim (λ e. inr e) (λ e. inl e) (cases_lt b a)
 
 all-from : (a : Bool) (bs : List Bool) → all_from a bs ≡ true → (a ≡ true) × ((i : ℕ) → get_or bs i true ≡ true)
 all-from a [] e = (e, λ i. refl)

@@ -5,7 +5,7 @@ use mathlib.Core.Bool.{true}
 use lib.Dec.{leb}
 use borrow.Author.Tests.{leb-true}
 use Rattle.pic_source.specs.Sources.{is_source}
-use Rattle.pic_source.proofs.Bools.{and_parts}
+use Rattle.std.proofs.lemmas.Bool.{and_parts}
 
 -- What the test for a source says.
 pub source-range : (n s : ℕ) → is_source n s ≡ true → (1 ≤ s) × (s ≤ n)

@@ -9,7 +9,7 @@ use lib.ListN.{length, get_or, set}
 use lib.Seq.{get_or-set_same, get_or-set_other}
 use lib.Dec.{leb}
 use Rattle.pic_source.specs.Ranks.{rank}
-use Rattle.pic_source.proofs.Bools.{eq-cases}
+use Rattle.std.proofs.lemmas.Bool.{cases_eq}
 use Rattle.pic_comparator.specs.Comparator.{entry_of}
 use Rattle.pic_comparator.specs.Trees.{passing, balanced_of, entered_by}
 use Rattle.pic_comparator.proofs.Comparing.{enters-waiting}
@@ -25,7 +25,7 @@ use Rattle.pic_tree.proofs.Rooted.{any-tree}
 -- The next source's entering rank.
 pub turn : (c : Controller) (s : ℕ) (ranks : List ℕ) {r : ℕ} → s < length ranks → Entering c (s - 1) ranks → r ≡ cond (waiting_at c s) (rank_at c s).0 0
     → Entering c s (set ranks s r)
-turn c s ranks {r} l h e i a b = ⊎_elim same other (eq-cases i s)
+turn c s ranks {r} l h e i a b = ⊎_elim same other (cases_eq i s)
   where
     at : (v w : ℕ) → v ≡ w → entry_of (leb 1 v) i (rank v) ≡ entry_of (leb 1 w) i (rank w)
     at v w e = ap (λ (v : ℕ). entry_of (leb 1 v) i (rank v)) e

@@ -8,7 +8,7 @@ use native.Mathlib.Omega.{arith}
 use lib.Dec.{eqb}
 use borrow.Author.Tests.{eqb-false, eq-eqb, ne_eqb}
 use Rattle.pic.specs.declared.Controller.{Controller}
-use Rattle.pic_source.proofs.Bools.{eq-cases}
+use Rattle.std.proofs.lemmas.Bool.{cases_eq}
 use Rattle.pic.specs.Fields.{with_scalars, with_priord}
 use Rattle.pic.specs.Calls.{priority_order, accepts, asks}
 use Rattle.pic.proofs.Soundness.{Sound, facts}
@@ -96,7 +96,7 @@ store-switch c o v h = go (eqb (offset_refusal o) 0)
 
 -- and after a store.
 pub store-fresh : StoreFresh
-store-fresh c o v e = go (eq-cases c.scalars.priord d.scalars.priord)
+store-fresh c o v e = go (cases_eq c.scalars.priord d.scalars.priord)
   where
     d : Controller
     d = (store_of c o v).machine

@@ -8,7 +8,8 @@ use native.Mathlib.Omega.{arith}
 use lib.Dec.{eqb, ltb}
 use borrow.Author.Tests.{eq-eqb, ne_eqb, lt-ltb, le-ltb}
 use Rattle.pic_source.specs.declared.Rank.{Rank}
-use Rattle.pic_source.proofs.Bools.{eq-cases, le-cases}
+use Rattle.std.proofs.lemmas.Bool.{cases_eq}
+use Rattle.pic_source.proofs.Bools.{le-cases}
 use Rattle.pic_bits.specs.Tables.{Shaped}
 use Rattle.pic.specs.declared.Controller.{Controller}
 use Rattle.pic.specs.Sources.{rank_at}
@@ -27,7 +28,7 @@ module _ (c d : Controller) where
   pub source-moved : (sets : List (List ℕ)) (s : ℕ) → Shaped 16 sets → updated_of sets s (rank_at c s) (ready_at c s) (rank_at d s) (ready_at d s) ≡ moved_at c d s sets
   source-moved sets s h =
       sets-are _ _ (update-shape sets s (rank_at c s) (ready_at c s) (rank_at d s) (ready_at d s) h)
-      (λ r t l k. update-member sets h s (rank_at c s) (ready_at c s) (rank_at d s) (ready_at d s) r t l k ∙ at r t (eq-cases t s))
+      (λ r t l k. update-member sets h s (rank_at c s) (ready_at c s) (rank_at d s) (ready_at d s) r t l k ∙ at r t (cases_eq t s))
     where
       one : (o a p b q : Bool) → differs (differs o (a && (true && p))) (b && (true && q)) ≡ differs o (true && differs (a && p) (b && q))
       one true true true true true = refl
@@ -74,7 +75,7 @@ module _ (c d : Controller) where
   pub word-turn : (sets now next : List (List ℕ)) (x y : ℕ) → y < 32 → now ≡ moved_where (up_to x y) c d sets → next ≡ moved_at c d (32 * x + y) now
       → next ≡ moved_where (up_to x (y + 1)) c d sets
   word-turn sets now next x y l e f =
-      f ∙ by-same _ _ (λ r t a b. ap (λ (o : Bool). differs o (eqb t (32 * x + y) && moves r t)) (ap (λ (q : List (List ℕ)). in_set q r t) e ∙ in-sets (λ (q u : ℕ). differs (in_set sets q u) (up_to x y u && moves q u)) r t a b) ∙ at r t (eq-cases t (32 * x + y)))
+      f ∙ by-same _ _ (λ r t a b. ap (λ (o : Bool). differs o (eqb t (32 * x + y) && moves r t)) (ap (λ (q : List (List ℕ)). in_set q r t) e ∙ in-sets (λ (q u : ℕ). differs (in_set sets q u) (up_to x y u && moves q u)) r t a b) ∙ at r t (cases_eq t (32 * x + y)))
     where
       new : (o m : Bool) → differs (differs o (true && false && m)) (true && m) ≡ differs o (true && true && m)
       new true true = refl
@@ -98,7 +99,7 @@ module _ (c d : Controller) where
           let b : t % 32 ≡ y = omega (arith, z, l) in
           rw (eq-eqb t (32 * x + y) z, eq-eqb (t / 32) x a, le-ltb (t % 32) y (omega (arith, b)), lt-ltb (t % 32) (y + 1) (omega (arith, b))) (new (in_set sets r t) (moves r t))
       at r t (inr n) =
-          rw (ne_eqb t (32 * x + y) n) (old (differs (in_set sets r t) (up_to x y t && moves r t)) ∙ ap (λ (q : Bool). differs (in_set sets r t) (q && moves r t)) (order t n (eq-cases (t / 32) x) (le-cases (t % 32) y)))
+          rw (ne_eqb t (32 * x + y) n) (old (differs (in_set sets r t) (up_to x y t && moves r t)) ∙ ap (λ (q : Bool). differs (in_set sets r t) (q && moves r t)) (order t n (cases_eq (t / 32) x) (le-cases (t % 32) y)))
 
   pub word-begun : (sets : List (List ℕ)) (x : ℕ) → Shaped 16 sets → sets ≡ moved_where (up_to x 0) c d sets
   word-begun sets x h = sets-are _ sets h (λ r t l k. none (in_set sets r t) (eqb (t / 32) x) (ltb (t % 32) 0) (moves r t) (le-ltb (t % 32) 0 (omega arith)))

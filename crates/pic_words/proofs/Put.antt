@@ -9,7 +9,7 @@ use lib.Bits.{bit_and, bit_or, bit_xor, and_le_l, and_le_r, or_lt}
 use lib.Dec.{eqb}
 use borrow.Author.Tests.{ne_eqb}
 use Rattle.pic_source.specs.Sources.{latch_after}
-use Rattle.pic_source.proofs.Bools.{eq-cases}
+use Rattle.std.proofs.lemmas.Bool.{cases_eq}
 use Rattle.pic_bits.specs.Bits.{bit_of, has_bit}
 use Rattle.pic_bits.proofs.Bits.{each-bit, bit-lt, bit-cases, bit-ones, none-of-zero, power-on, has-power, and-choice, or-choice, xor-choice}
 use Rattle.pic_bits.proofs.Words.{bit-number, bits_are, bit-of-bits, word_same}
@@ -82,7 +82,7 @@ one_bit k =
 
 pub with-bit-is : (w k v : ℕ) → bits_put (has_bit (2 ^ k)) (bit_of (2 ^ k * (v % 2))) w ≡ bits_put (λ (z : ℕ). eqb z k) (λ (z : ℕ). v % 2) w
 with-bit-is w k v =
-    put_same (has_bit (2 ^ k)) (bit_of (2 ^ k * (v % 2))) w (λ (z : ℕ). eqb z k) (λ (z : ℕ). v % 2) w (λ y h. rw (has-power k y) (go y (eq-cases y k)))
+    put_same (has_bit (2 ^ k)) (bit_of (2 ^ k * (v % 2))) w (λ (z : ℕ). eqb z k) (λ (z : ℕ). v % 2) w (λ y h. rw (has-power k y) (go y (cases_eq y k)))
   where
     go : (y : ℕ) → (y ≡ k) ⊎ (y ≡ k → ⊥) → cond (eqb y k) (bit_of (2 ^ k * (v % 2)) y) (bit_of w y) ≡ cond (eqb y k) (v % 2) (bit_of w y)
     go y (inl e) = rw (e, one_bit k (v % 2) (omega arith))

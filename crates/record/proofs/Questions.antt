@@ -1,12 +1,13 @@
 -- The questions in order: the verdict of each no, and what follows where every one was answered yes.
 use mathlib.Core.Path.{◌≡◌, refl, sym, ap, ◌∙◌}
-use mathlib.Core.Bool.{Bool, true, false, not, ◌&&◌, true≢false}
+use mathlib.Core.Bool.{Bool, true, false, not}
 use Prim.Native.Nat.{ℕ, suc, ◌+◌, ◌≤◌, ◌<◌}
 use native.Mathlib.Omega.{arith}
 use mathlib.Core.List.{List}
 use borrow.Author.Tests.{leb-true, eqb-true, eqb-false, le-leb, lt-leb, eq-eqb, ne_eqb, not-true, not-false}
 use lib.Dec.{lit<, leb, eqb}
 use lib.ListN.{length}
+use Rattle.std.proofs.lemmas.Bool.{and_parts}
 use Rattle.questions.specs.declared.Refusal.{Refusal}
 use Rattle.questions.specs.Numbers.{number_of}
 use Rattle.questions.proofs.Numbers.{never_0}
@@ -78,11 +79,6 @@ module _ (limits : Limits) (bytes : List ℕ) (hp vp : ℕ) where
             rw (le-leb _ _ q1, ← en, ← es, eq-eqb _ _ q4, not-false (arrays_hold n hp vp) h)
             (others (walk shape_of (words_from bytes 2 n) (words_from bytes (2 + n) n)))
 
-and-true : (a b : Bool) → a && b ≡ true → (a ≡ true) × (b ≡ true)
-and-true true true h = (refl, refl)
-and-true true false h = (refl, h)
-and-true false b h = (h, absurd (true≢false (sym h)))
-
 -- A question that did not refuse was answered yes, and so were those after it.
 question-yes : (k : ℕ) (a : Bool) (v : Verdict) → (question (suc k) a v).refusal ≡ 0 → (a ≡ true) × (v.refusal ≡ 0)
 question-yes k true v h = (refl, h)
@@ -120,8 +116,8 @@ readable limits bytes hp vp h =
     let q23 = question-yes 22 _ _ q3.1 in
     let q4 = question-yes 3 _ _ q23.1 in
     let q5 = question-yes 4 _ _ q4.1 in
-    let range = and-true _ _ q2.0 in
-    let hold = and-true _ _ q5.0 in
+    let range = and_parts _ _ q2.0 in
+    let hold = and_parts _ _ q5.0 in
     record {
       sizes = leb-true _ _ q1.0;
       two = leb-true _ _ range.0;
@@ -156,7 +152,7 @@ writable sources heads values space h =
     let q3 = question-yes 2 _ _ q2.1 in
     let q4 = question-yes 3 _ _ q3.1 in
     let q5 = question-yes 4 _ _ q4.1 in
-    let range = and-true _ _ q2.0 in
+    let range = and_parts _ _ q2.0 in
     record {
       two = leb-true _ _ range.0;
       most = leb-true _ _ range.1;

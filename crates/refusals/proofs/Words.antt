@@ -8,15 +8,11 @@ use mathlib.Core.Path.{◌≡◌, refl, sym, ◌∙◌}
 use mathlib.Core.List.{List, [], ◌∷◌, ◌++◌}
 use lib.ListN.{length, drop}
 use lib.Dec.{leb, eqb}
+use Rattle.std.proofs.lemmas.Bool.{and_parts}
 use Rattle.digits.specs.Ascii.{ascii}
 use Rattle.refusals.specs.Lines.{start_of, first_line, line_at}
 use Rattle.refusals.specs.Words.{refusal_rows, words_in, words_of, words_size}
 use Rattle.refusals.proofs.Lines.{start_none}
-
--- Both of two tests.
-both : (a b : Bool) → a && b ≡ true → (a ≡ true) × (b ≡ true)
-both true b e = (refl, e)
-both false b e = absurd (true≢false (sym e))
 
 -- The words of each row have at most so many bytes.
 abbrev short : ℕ → List (ℕ × String) → Bool
@@ -27,7 +23,7 @@ most-in : (most : ℕ) (rows : List (ℕ × String)) → short most rows ≡ tru
 unfolding words_in
 most-in most [] e n = omega arith
 most-in most ((number, words) ∷ rows) e n =
-    let (first, rest) = both (leb (length (ascii words)) most) (short most rows) e in
+    let (first, rest) = and_parts (leb (length (ascii words)) most) (short most rows) e in
     by-case (eqb n number) (leb-true (length (ascii words)) most first) (most-in most rows rest n)
   where
     by-case : (b : Bool) → length (ascii words) ≤ most → length (words_in rows n) ≤ most → length (cond b (ascii words) (words_in rows n)) ≤ most
@@ -79,8 +75,8 @@ line-in : (k : ℕ) (rows : List (ℕ × String)) → numbered k rows ≡ true �
 unfolding words_in start_of first_line
 line-in k [] e n j h = refl
 line-in k ((number, words) ∷ rows) e n j h =
-    let (here, more) = both (eqb number k) (one_line (ascii words) && numbered (suc k) rows) e in
-    let (one, rest) = both (one_line (ascii words)) (numbered (suc k) rows) more in
+    let (here, more) = and_parts (eqb number k) (one_line (ascii words) && numbered (suc k) rows) e in
+    let (one, rest) = and_parts (one_line (ascii words)) (numbered (suc k) rows) more in
     by-case n (eqb-true number k here) one h (line-in (suc k) rows rest)
   where
     by-case : (n : ℕ) → number ≡ k → one_line (ascii words) ≡ true → j ≡ n + k → ((m j : ℕ) → j ≡ m + suc k → line_at (lines rows) m ≡ words_in rows j)

@@ -15,10 +15,6 @@ use lib.Seq.{drop-cons}
 use Rattle.text_lines.specs.Numbers.{Number, all_digits, is_number, found, number_in}
 use Rattle.digits.specs.Digits.{digit_of, number_after, number_of}
 
-pub and-true : (a b : Bool) → a && b ≡ true → (a ≡ true) × (b ≡ true)
-and-true true b h = (refl, h)
-and-true false b h = absurd (true≢false (sym h))
-
 -- The digit of a byte, as `to_digit` of the library gives it below 16.
 digit-there : (byte : ℕ) → digit_of byte ≡ cond (ltb (digit_value byte) 16) (digit_value byte) 16
 unfolding digit_of

@@ -1,6 +1,6 @@
 -- Blanks around a part, what a line says, and the rows of a text.
 use mathlib.Core.Path.{◌≡◌, refl, sym, ap, ◌∙◌}
-use mathlib.Core.Bool.{Bool, true, false, cond, ◌&&◌}
+use mathlib.Core.Bool.{Bool, true, false, cond}
 use Prim.Native.Nat.{ℕ, zero, suc, ◌+◌, ◌-◌, ◌≤◌, ◌<◌}
 use native.Mathlib.Omega.{arith}
 use mathlib.Core.List.{List, [], ◌∷◌}
@@ -12,6 +12,7 @@ use Rattle.std.specs.Prelude.{Option, Some, None}
 use denote.Bor.{Bor}
 use lib.ListN.{length, get_or, take, drop, drop_of_length-le}
 use lib.Seq.{drop-cons, take-take, take-length, length-take-le}
+use Rattle.std.proofs.Math.Bool.{and-true}
 use Rattle.text_lines.specs.Lines.{before}
 use Rattle.text_lines.specs.Rows.{carriage_return, last_of, without_return, comment_sign, said_in, is_blank, without_lead, kept_of}
 use Rattle.text_lines.proofs.Marks.{up_to}
@@ -41,17 +42,13 @@ last-no_blank text (suc m) n inside blanks here = by-case (leb n m) refl (λ l. 
         let one : n - 1 ≡ m = omega arith in
         rw (rw one at (here (omega arith))) l
 
-and-true-right : (b : Bool) → b && true ≡ b
-and-true-right true = refl
-and-true-right false = refl
-
 -- A carriage return at the end of a line: the line's last part of one byte is one.
 pub ends-in-return : (line : List ℕ) → pointwise eqb (drop (length line - 1) line) (carriage_return ∷ []) ≡ eqb (last_of line) carriage_return
 ends-in-return [] = refl
 ends-in-return (byte ∷ line) =
     let l : length (byte ∷ line) - 1 < length (byte ∷ line) = omega arith in
     let over : length (byte ∷ line) ≤ suc (length (byte ∷ line) - 1) = omega arith in
-    rw (drop-cons (byte ∷ line) (length (byte ∷ line) - 1) 0 l, drop_of_length-le (byte ∷ line) over) (and-true-right _)
+    rw (drop-cons (byte ∷ line) (length (byte ∷ line) - 1) 0 l, drop_of_length-le (byte ∷ line) over) (and-true _)
 
 -- A line without it.
 module _ (line : List ℕ) where

@@ -9,6 +9,7 @@ use borrow.Author.Tests.{le-leb, lt-leb}
 use lib.Dec.{leb, ltb}
 use lib.ListN.{length, take, drop, set, length-drop}
 use lib.Seq.{take-suc-set}
+use Rattle.std.proofs.lemmas.Bool.{and_parts}
 use Rattle.record.specs.Record.{most_events}
 use Rattle.text_lines.specs.Lines.{line_feed, before, after, lines_in}
 use Rattle.text_lines.specs.Rows.{said_in, without_lead, says_any, Row, rows_from}
@@ -16,7 +17,7 @@ use Rattle.text_lines.specs.Numbers.{number_in}
 use Rattle.text_reader.specs.Reading.{Fault, head_part, value_part, is_event, has_whole_head, head_in, value_in, event_in, fault, no_fault, why_not_event, why_short_head, not_event, too_many, short_head, events_fault}
 use Rattle.text_reader.specs.Answers.{good, bad, read_of}
 use Rattle.text_lines.proofs.Marks.{lines-first}
-use Rattle.text_lines.proofs.Digits.{and-true, found_ok, found-value}
+use Rattle.text_lines.proofs.Digits.{found_ok, found-value}
 
 -- What is found in a row is an event just where it is one.
 pub event-ok : (said : List ℕ) → (event_in said).ok ≡ is_event said
@@ -24,7 +25,7 @@ event-ok said = rw (found_ok 16 8 (head_part said), found_ok 16 8 (value_part sa
 
 module _ (row : Row) (good : (event_in row.said).ok ≡ true) where
   both : ((number_in 16 8 (head_part row.said)).ok ≡ true) × ((number_in 16 8 (value_part row.said)).ok ≡ true)
-  both = and-true _ _ good
+  both = and_parts _ _ good
 
   pub event-head : (event_in row.said).head ≡ head_in row
   event-head = found-value 16 8 (head_part row.said) both.0
