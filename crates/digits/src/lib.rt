@@ -12,42 +12,45 @@ pub use row::{Piece, put_pieces};
 mod row;
 
 // The sign of a digit.
-// Two sums, on the path of every print.
 fn glyph(d: u64) -> u8
     requires { d < 16 }
     ensures { result ≡ glyph_of d }
 {
-    if d < 10 {
-        (48 + d) as u8
-    } else {
-        (87 + d) as u8
-    }
+    b"0123456789abcdef"[d as usize]
+}
+
+// How a number is put: its base, the fewest digits and the most.
+#[derive(Clone, Copy)]
+struct Form {
+    base: u64,
+    least: usize,
+    most: usize,
+    ghost sound: { (1 < base) × (base ≤ 16) × (0 < most) },
 }
 
 // How many digits n has: those of its quotients, until one digit is enough.
-fn count_digits(base: u64, least: usize, most: usize, n: u64) -> usize
-    requires { (1 < base) × (0 < most) }
-    ensures { result ≡ length (digits_to base least most n) }
+fn count_digits(form: Form, n: u64) -> usize
+    ensures { result ≡ length (digits_to form.base form.least form.most n) }
 {
     let mut left = n;
-    for k in 1..most {
-        if left < base && least <= k {
+    for k in 1..form.most {
+        if left < form.base && form.least <= k {
             return k;
         }
-        left /= base;
+        left /= form.base;
     }
-    most
+    form.most
 }
 
 // Stores the last k digits of n from a place on, the last one first.
-fn store_digits(buffer: &mut [u8], at: usize, base: u64, k: usize, n: u64)
-    requires { (1 < base) × (base ≤ 16) × (at + k ≤ length buffer.old) }
-    ensures { buffer.new ≡ sets buffer.old at (digits_to base k k n) }
+fn store_digits(buffer: &mut [u8], at: usize, form: Form, k: usize, n: u64)
+    requires { at + k ≤ length buffer.old }
+    ensures { buffer.new ≡ sets buffer.old at (digits_to form.base k k n) }
 {
     let mut left = n;
     for i in (0..k).rev() {
-        buffer[at + i] = glyph(left % base);
-        left /= base;
+        buffer[at + i] = glyph(left % form.base);
+        left /= form.base;
     }
 }
 
@@ -86,14 +89,13 @@ pub fn put_byte(buffer: &mut [u8], at: usize, b: u8) -> usize
 }
 
 // Puts the digits of n, as put_text does.
-fn put_number(buffer: &mut [u8], at: usize, base: u64, least: usize, most: usize, n: u64) -> usize
-    requires { (1 < base) × (base ≤ 16) × (0 < most) }
-    ensures value { result ≡ place_after buffer.old at (digits_to base least most n) }
-    ensures buffer_after { buffer.new ≡ put_at buffer.old at (digits_to base least most n) }
+fn put_number(buffer: &mut [u8], at: usize, form: Form, n: u64) -> usize
+    ensures value { result ≡ place_after buffer.old at (digits_to form.base form.least form.most n) }
+    ensures buffer_after { buffer.new ≡ put_at buffer.old at (digits_to form.base form.least form.most n) }
 {
-    let k = count_digits(base, least, most, n);
+    let k = count_digits(form, n);
     if has_room(buffer.len(), at, k) {
-        store_digits(buffer, at, base, k, n);
+        store_digits(buffer, at, form, k, n);
         return at + k;
     }
     at
@@ -107,7 +109,12 @@ pub fn put_decimal(buffer: &mut [u8], at: usize, n: u64) -> usize
     if n < 10 {
         return put_byte(buffer, at, glyph(n));
     }
-    put_number(buffer, at, 10, 1, 20, n)
+    let form = Form {
+        base: 10,
+        least: 1,
+        most: 20,
+    };
+    put_number(buffer, at, form, n)
 }
 
 // Puts n in hexadecimal, in at least so many digits and at most eight, as put_text does.
@@ -115,5 +122,10 @@ pub fn put_hex(buffer: &mut [u8], at: usize, least: usize, n: u32) -> usize
     ensures value { result ≡ place_after buffer.old at (hexadecimal least n) }
     ensures buffer_after { buffer.new ≡ put_at buffer.old at (hexadecimal least n) }
 {
-    put_number(buffer, at, 16, least, 8, n as u64)
+    let form = Form {
+        base: 16,
+        least,
+        most: 8,
+    };
+    put_number(buffer, at, form, n as u64)
 }
