@@ -87,11 +87,9 @@ fn say_refused(rt: &HostRuntime, name: &[u8], error: io::Error) {
 fn read_standard<'a>(rt: &HostRuntime, buffer: &'a mut [u8]) -> Option<&'a [u8]>
     ensures within { IfSome result (λ read. length read.now ≤ length buffer.old) }
 {
-    let input = read_all(&mut rt.stdin(), buffer);
-    if input.is_err() {
-        say_unread(rt, b"standard input");
-    }
-    input.ok()
+    read_all(&mut rt.stdin(), buffer)
+        .inspect_err(|_| say_unread(rt, b"standard input"))
+        .ok()
 }
 
 // Reads the file, and closes it before anything is written, so that nothing reaches it even where a closed standard output or standard error left it
@@ -109,13 +107,9 @@ fn read_file<'a>(rt: &HostRuntime, name: &str, buffer: &'a mut [u8]) -> Option<&
     ensures within { IfSome result (λ read. length read.now ≤ length buffer.old) }
 {
     match File::open(rt, name) {
-        Ok(file) => {
-            let input = read_open(file, buffer);
-            if input.is_err() {
-                say_unread(rt, name.as_bytes());
-            }
-            input.ok()
-        }
+        Ok(file) => read_open(file, buffer)
+            .inspect_err(|_| say_unread(rt, name.as_bytes()))
+            .ok(),
         Err(error) => {
             say_refused(rt, name.as_bytes(), error);
             None
