@@ -37,20 +37,20 @@ fn accepted(sources: u8, events: u16, m: Machine) -> Numbers
     }
 }
 
-// Reads a record into heads and values, whose places serve for those of answers and refusals, and plays it.
-// Heads beside values, answers beside refusals: lent arrays are of numbers, and C, `read` and `play` take them apart.
-fn play_into(
-    record: &[u8],
-    heads: &mut [u32],
-    values: &mut [u32],
-    answers: &mut [u32],
-    refusals: &mut [u8],
-) -> Result<Numbers, Refused>
-    requires { ServesFor (length heads.old) (length answers.old) × ServesFor (length values.old) (length refusals.old) }
+// Plays a record from its bytes. Accepted, what its events answer and what they are refused with stands in the first n places of the two arrays; refused, both
+// stay as they were. Question 5 asks whether both have n places.
+// Answers beside refusals: C takes these two arrays.
+pub fn play(record: &[u8], answers: &mut [u32], refusals: &mut [u8]) -> Result<Numbers, Refused>
     ensures value { all_numbers result ≡ numbers_of «record».now (length answers.old) (length refusals.old) }
     ensures answers_after { answers.new ≡ answers_left «record».now answers.old refusals.old }
     ensures refusals_after { refusals.new ≡ refusals_left «record».now answers.old refusals.old }
 {
+    // Fixed arrays, heads beside values: there is no heap, and `read` and `play` take slices of numbers. A part of each serves for the places of answers and of
+    // refusals.
+    let mut heads: [u32; MOST_EVENTS] = [0; MOST_EVENTS];
+    let mut values: [u32; MOST_EVENTS] = [0; MOST_EVENTS];
+    let heads = &mut heads[..places(answers.len())];
+    let values = &mut values[..places(refusals.len())];
     let sizes = record::read(record, heads, values)?;
     let played = claims::play(
         sizes.sources,
@@ -60,19 +60,4 @@ fn play_into(
         refusals,
     );
     Ok(accepted(sizes.sources as u8, sizes.events as u16, played.machine))
-}
-
-// Plays a record from its bytes. Accepted, what its events answer and what they are refused with stands in the first n places of the two arrays; refused, both
-// stay as they were. Question 5 asks whether both have n places.
-pub fn play(record: &[u8], answers: &mut [u32], refusals: &mut [u8]) -> Result<Numbers, Refused>
-    ensures value { all_numbers result ≡ numbers_of «record».now (length answers.old) (length refusals.old) }
-    ensures answers_after { answers.new ≡ answers_left «record».now answers.old refusals.old }
-    ensures refusals_after { refusals.new ≡ refusals_left «record».now answers.old refusals.old }
-{
-    // Fixed arrays: there is no heap, and `read` and `play` take slices of numbers.
-    let mut heads: [u32; MOST_EVENTS] = [0; MOST_EVENTS];
-    let mut values: [u32; MOST_EVENTS] = [0; MOST_EVENTS];
-    let h = places(answers.len());
-    let v = places(refusals.len());
-    play_into(record, &mut heads[..h], &mut values[..v], answers, refusals)
 }
