@@ -142,6 +142,7 @@ fn next_row(text: &[u8], line: usize) -> Result<Row<'_>, usize>
 }
 
 // Stores the heads and values of the rows of events, and the numbers of their lines, up to the first row that is bad.
+// Three arrays, as `Events` has three slices.
 fn read_events<'a>(
     text: &[u8],
     line: usize,
@@ -184,6 +185,7 @@ fn read_events<'a>(
 }
 
 // Reads a text: its first fault; else N, its line, and the events.
+// Three arrays, as in `read_events`.
 fn read_text<'a>(
     text: &[u8],
     heads: &'a mut [u32; MOST_EVENTS],
@@ -239,6 +241,7 @@ pub fn to_record(text: &[u8], bytes: &mut [u8; RECORD_SIZE]) -> Result<usize, No
     ensures bytes_after { bytes.new ≡ to_record_bytes text.now bytes.old }
     ensures result_in_bounds { record_length result ≤ length bytes.new }
 {
+    // Three arrays, as in `read_events`.
     let mut heads: [u32; MOST_EVENTS] = [0; MOST_EVENTS];
     let mut values: [u32; MOST_EVENTS] = [0; MOST_EVENTS];
     let mut numbers: [usize; MOST_EVENTS] = [0; MOST_EVENTS];
