@@ -2,13 +2,13 @@
 use Prim.Native.Nat.{ℕ, zero, suc, ◌+◌, ◌*◌, ◌-◌, ◌^◌, ◌≤◌, ◌<◌}
 use mathlib.Core.Path.{◌≡◌, refl, ap}
 use mathlib.Core.Bool.{Bool, true, false}
-use native.Mathlib.Nat.{mul-le-mul}
+use native.Mathlib.Nat.{mul-le-mul, mul-one}
 use native.Mathlib.Omega.{arith}
-use borrow.Author.Tests.{lt-ltb, le-ltb, ltb-true}
+use borrow.Author.Tests.{lt-ltb, le-ltb, le-leb, ltb-true}
 use lib.Dec.{ltb, lit<}
-use lib.IntN.{ℤ, pos, negsuc, sub_ℕ, neg_ℤ, nat_abs, ◌+ℤ◌, ◌-ℤ◌, ◌*ℤ◌}
-use Rattle.std.specs.Int.{int_max}
-use mir.Val.{SFits, to_z, of_z}
+use lib.IntN.{ℤ, pos, negsuc, sub_ℕ, neg_ℤ, nat_abs, ◌+ℤ◌, ◌-ℤ◌, ◌*ℤ◌, *ℤ-zero}
+use lib.Signed.{le_z}
+use mir.Val.{SFits, to_z, of_z, bool_byte}
 use mir.Syntax.{w32}
 use mir.Facts.{to_z_pos, to_z-of_z}
 
@@ -83,24 +83,18 @@ abbrev pub kept : ℤ → ℕ
 kept (pos n) = n
 kept (negsuc n) = 0
 
--- So the code keeps z: it takes the larger of z and 0.
-larger : (z : ℤ) → int_max z (pos 0) ≡ pos (kept z)
-larger (pos zero) = refl
-larger (pos (suc n)) = rw (lt-ltb 0 (suc n) (omega arith)) refl
-larger (negsuc n) = refl
+flag : (t : Bool) → Exact 1 (to_z w32 (bool_byte t)) (pos (bool_byte t))
+flag true = record { is = refl; near = omega arith }
+flag false = record { is = refl; near = omega arith }
 
-kept-near : (z : ℤ) → nat_abs z ≤ 255 → kept z ≤ 255
-kept-near (pos n) h = h
-kept-near (negsuc n) h = omega arith
+times-flag : (z : ℤ) → z *ℤ pos (bool_byte (le_z (pos 0) z)) ≡ pos (kept z)
+times-flag (pos n) = rw (le-leb 0 n (omega arith)) (ap pos (mul-one n))
+times-flag (negsuc n) = *ℤ-zero (negsuc n)
 
--- The code's number x is the m that the rule keeps, at most 255, and 32 bits hold it.
-pub record Keeping (m : ℕ) (x : ℤ) : Type 0 where
-  pub is : x ≡ pos m
-  pub near : m ≤ 255
-  pub exact : to_z w32 (of_z w32 x) ≡ pos m
-
-pub keeping : (z : ℤ) {x : ℤ} → nat_abs z ≤ 255 → x ≡ int_max (to_z w32 (of_z w32 z)) (pos 0) → Keeping (kept z) x
-keeping z {x} h e =
-    let is : x ≡ pos (kept z) = rw (e, (fitting 255 z z refl h (lit< tt)).exact.is) (larger z) in
-    let near = kept-near z h in
-    record { is = is; near = near; exact = rw is (fitting 255 (pos (kept z)) (pos (kept z)) refl near (lit< tt)).exact.is }
+-- So the code keeps z: it multiplies it by whether it is not below 0.
+pub keeping : (z : ℤ) → nat_abs z ≤ 255
+    → Fitting 255 (to_z w32 (of_z w32 z) *ℤ to_z w32 (bool_byte (le_z (pos 0) (to_z w32 (of_z w32 z))))) (pos (kept z))
+keeping z h =
+    let x = (fitting 255 z z refl h (lit< tt)).exact in
+    let e : z *ℤ pos (bool_byte (le_z (pos 0) (to_z w32 (of_z w32 z)))) ≡ pos (kept z) = rw x.is (times-flag z) in
+    rw (← e) (product x (flag (le_z (pos 0) (to_z w32 (of_z w32 z)))) (lit< tt))

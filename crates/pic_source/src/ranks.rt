@@ -23,12 +23,13 @@ fn order(priord: u8) -> u8
     ((priord as u32 + 255) / 256) as u8
 }
 
-// n, or 15 less n where priord is not 0. What would be below 0 is 0; a sound controller has no such number.
+// n, or 15 less n where priord is not 0. What would be below 0 is 0; a sound controller has no such number. By a product, as `order` by a quotient: the mirror
+// calls no function of another file, in which a branch might stand (tests/mirror).
 fn mirrored(priord: u8, n: u8) -> u8
     ensures { result ≡ mirror priord n }
 {
     let z = closed_form(order(priord), n);
-    z.max(0) as u8
+    (z * ((z >= 0) as i32)) as u8
 }
 
 // The field of a rank.
