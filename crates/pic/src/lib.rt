@@ -22,8 +22,8 @@ pub struct Scalars {
     pub current: Field,
 }
 
-// The controller. The arrays are indexed by source number; places 0 and above the number of sources mean nothing. It holds fields as they were written; a rank is
-// worked out from its field and priord where it is used.
+// The controller. The arrays are indexed by source number; places 0 and above the number of sources mean nothing. It holds fields as they were written; a rank
+// is worked out from its field and priord where it is used.
 // Number arrays for each source, and numbers for flags: 01 names this form, and question 8 is asked of any such value, sound or not.
 #[derive(Clone, Copy)]
 pub struct Controller {

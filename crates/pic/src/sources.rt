@@ -37,8 +37,8 @@ impl Controller {
         (self.enable[s as usize] == 1) & self.is_pending(s)
     }
 
-    // The winner: the eligible source of highest rank, of equals the lowest number. The rank of a source is worked out only where it is enabled and pending; a rank of
-    // 0 is not above any, so it is not asked for.
+    // The winner: the eligible source of highest rank, of equals the lowest number. The rank of a source is worked out only where it is enabled and pending; a
+    // rank of 0 is not above any, so it is not asked for.
     pub fn winner(self) -> Winner
         ensures { result ≡ winner_of self }
     {
