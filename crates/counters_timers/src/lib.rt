@@ -4,8 +4,8 @@
 mod both;
 mod one;
 
-// An internal timer: its counter, its bound and its control (bit 0 enable, bit 1 halt_en, bit 2 pause_en). Words as the registers hold them: question 8 is asked
-// of any such values, sound or not.
+// An internal timer: its counter, its bound and its control (bit 0 enable, bit 1 halt_en, bit 2 pause_en). Words, as the registers hold them: question 8 is
+// asked of any such values, sound or not.
 #[derive(Clone, Copy)]
 pub struct Timer {
     pub count: u32,
