@@ -1,5 +1,5 @@
 -- The text of a record, put line by line.
-use mathlib.Core.Path.{◌≡◌, sym, ap, ◌∙◌}
+use mathlib.Core.Path.{◌≡◌, refl, sym, ap, ◌∙◌}
 use Prim.Native.Nat.{ℕ, zero, suc, ◌+◌, ◌*◌, ◌≤◌, ◌<◌}
 use native.Mathlib.Numerals.{add-one}
 use native.Mathlib.Omega.{arith}
@@ -76,6 +76,17 @@ events-snoc (suc i) (x ∷ heads) (y ∷ values) h v =
     let v' : i < length values = omega arith in
     ap (λ (l : List ℕ). ended (event_text x y) ++ l) (events-snoc i heads values h' v')
     ∙ sym (append_assoc (ended (event_text x y)) (events_text (take i heads) (take i values)) (ended (event_text (get_or heads i 0) (get_or values i 0))))
+
+-- Where one list has no more events, there are no more lines.
+pub events-short : (k : ℕ) (heads values : List ℕ) → (k < length heads → k < length values → ⊥) → events_text (take k heads) (take k values) ≡ events_text heads values
+unfolding events_text
+events-short zero [] values h = refl
+events-short (suc k) [] values h = refl
+events-short zero (x ∷ heads) [] h = refl
+events-short zero (x ∷ heads) (y ∷ values) h = absurd (h (omega arith) (omega arith))
+events-short (suc k) (x ∷ heads) [] h = refl
+events-short (suc k) (x ∷ heads) (y ∷ values) h =
+    ap (λ (l : List ℕ). ended (event_text x y) ++ l) (events-short k heads values (λ a b. h (omega (arith, a)) (omega (arith, b))))
 
 -- The pieces of the first line.
 abbrev pub first_texts : ℕ → List (List ℕ)

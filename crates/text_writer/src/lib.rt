@@ -16,7 +16,7 @@ pub const LISTING_SIZE: usize = 4 + 18 * MOST_EVENTS;
 
 // Stores the text of a record, and answers its length.
 fn put_listing(text: &mut [u8], sources: u32, heads: &[u32], values: &[u32]) -> usize
-    requires { (sources < 1000) × (length heads.now ≡ length values.now) × (4 + 18 * length heads.now ≤ length text.old) }
+    requires { (sources < 1000) × (4 + 18 * length heads.now ≤ length text.old) }
     ensures value { result ≡ length (listing_of sources heads.now values.now) }
     ensures text_after { text.new ≡ filled (listing_of sources heads.now values.now) text.old }
     ensures upper_bound { result ≤ length text.new }

@@ -1,4 +1,4 @@
-use mathlib.Core.Path.{◌≡◌, sym, subst, ◌∙◌}
+use mathlib.Core.Path.{◌≡◌, sym, subst}
 use Prim.Native.Nat.{ℕ, ◌≤◌}
 use native.Mathlib.Omega.{arith}
 use mathlib.Core.List.{List}
@@ -47,8 +47,7 @@ put_listing-requires c =
     let few = parts-fit (parts (goal.at.put_listing-requires c).In_ok-sizes) in
     let fit = fits (goal.at.put_listing-requires c).In_ok-sizes in
     let h = length-take-le _ _ fit.0 in
-    let v = length-take-le _ _ fit.1 in
-    (few.1, h ∙ sym v, omega (arith, c.told-text, few.0, h))
+    (few.1, omega (arith, c.told-text, few.0, h))
 
 pub returns : goal.returns
 returns c =
