@@ -55,7 +55,7 @@ pub fn play_on<P: Plays>(
     }
 }
 
-// Plays the events on a machine that is asked question 8 once, as play_on does.
+// Plays the events on a machine that is asked question 8 once, as play_on does. One call of it, as play_lent is: both names are published.
 pub fn play(
     n: u32,
     heads: &[u32],

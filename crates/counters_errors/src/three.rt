@@ -32,7 +32,7 @@ impl ErrorCounters {
     }
 
     // Error counter i; a counter of 0 where there is none.
-    // Three registers by their names, and no step but the choice: an array would be no plainer.
+    // Three registers by their names, and no step but the choice: an array would be no plainer. No Option: published.
     #[tactic(auto, unfolding(crate::specs::Errors::error_at))]
     pub fn counter(self, i: u8) -> ErrorCounter
         ensures { result ≡ error_at self i }

@@ -33,7 +33,7 @@ impl Timers {
     }
 
     // Timer i; a timer of zeros where there is none.
-    // Two registers by their names, and no step but the choice: an array would be no plainer.
+    // Two registers by their names, and no step but the choice: an array would be no plainer. No Option: published.
     #[tactic(auto, unfolding(crate::specs::Timers::timer_at))]
     pub fn timer(self, i: u8) -> Timer
         ensures { result ≡ timer_at self i }

@@ -48,6 +48,7 @@ fn store_digits(buffer: &mut [u8], at: usize, form: Form, k: usize, n: u64)
     ensures { buffer.new ≡ sets buffer.old at (digits_to form.base k k n) }
 {
     let mut left = n;
+    // By the index: of what is stored through an adapter of iter_mut the library says nothing.
     for i in (0..k).rev() {
         buffer[at + i] = glyph(left % form.base);
         left /= form.base;
@@ -58,13 +59,11 @@ fn store_digits(buffer: &mut [u8], at: usize, form: Form, k: usize, n: u64)
 fn has_room(space: usize, at: usize, count: usize) -> bool
     ensures { result ≡ leb (at + count) space }
 {
-    if space < count {
-        return false;
-    }
-    at <= space - count
+    space.checked_sub(count).is_some_and(|last| at <= last)
 }
 
 // Puts the text into the buffer from a place on, and answers the place after it. Where the buffer does not hold it, nothing is stored.
+// A buffer and a place, here and below: published.
 pub fn put_text(buffer: &mut [u8], at: usize, text: &[u8]) -> usize
     ensures value { result ≡ place_after buffer.old at text.now }
     ensures buffer_after { buffer.new ≡ put_at buffer.old at text.now }

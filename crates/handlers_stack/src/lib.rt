@@ -86,6 +86,7 @@ pub fn handlers_sound(n: u8, depth: u8, stack: [Handler; 15]) -> bool
     let d = depth as usize;
     let mut ok = true;
     let mut below = None;
+    // By the index: a depth above 15, which is not sound, is asked too.
     for k in 0..d {
         let h = handler_at(stack, k);
         let good = handler_sound(n, k + 1 == d, below, h);

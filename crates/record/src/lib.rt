@@ -152,6 +152,7 @@ fn ask_reading(
 }
 
 // Reads a record within the limits of a reader, as read does.
+// Heads beside values, here and in all that plays and writes: lent arrays are of numbers.
 pub fn read_within(
     limits: Limits,
     bytes: &[u8],
@@ -172,7 +173,8 @@ pub fn read_within(
     })
 }
 
-// Reads any record: accepted, heads and values fill the first places of the arrays; refused, both stay as they were.
+// Reads any record: accepted, heads and values fill the first places of the arrays; refused, both stay as they were. One call of read_within, as read_compact
+// is: both names are published.
 pub fn read(bytes: &[u8], heads: &mut [u32], values: &mut [u32]) -> Result<Sizes, Refused>
     ensures result_value { read_numbers result ≡ read_answer board bytes.now (length heads.old) (length values.old) }
     ensures heads_after { heads.new ≡ read_heads board bytes.now heads.old values.old }

@@ -58,6 +58,7 @@ pub fn words_of(refusal: u8) -> &'static [u8]
 }
 
 // Puts the words of a refusal, as digits::put_text does.
+// A number, a buffer and a place: published.
 pub fn put_words(buffer: &mut [u8], at: usize, refusal: u8) -> usize
     ensures value { result ≡ place_after buffer.old at (words_of refusal) }
     ensures buffer_after { buffer.new ≡ put_at buffer.old at (words_of refusal) }
