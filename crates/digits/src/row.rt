@@ -16,6 +16,7 @@ pub enum Piece<'a> {
 }
 
 // Puts a piece, as put_text puts its text.
+// A buffer and a place, as of the calls that it matches with.
 fn put_piece(buffer: &mut [u8], at: usize, piece: Piece<'_>) -> usize
     ensures value { result ≡ place_after buffer.old at (piece_text piece.entry) }
     ensures buffer_after { buffer.new ≡ put_at buffer.old at (piece_text piece.entry) }

@@ -26,7 +26,8 @@ pub type Outcome = outcome::Outcome<Machine>;
 
 impl Answering for Machine {}
 
-// A machine that was asked whether it is sound. Its field is private, so that only `start` and `enter` make one.
+// A machine that was asked whether it is sound. Its field is private, so that only `start` and `enter` make one. No
+// invariant: that an event keeps a machine sound is a law of handlers_laws, which stands above.
 #[derive(Clone, Copy)]
 pub struct Checked {
     machine: Machine,

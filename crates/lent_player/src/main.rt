@@ -7,7 +7,7 @@ use handlers::Machine;
 const INPUT_SIZE: usize = record::RECORD_SIZE + 1;
 
 // Writes the print of a record.
-// One for each size: a bound over a closure cannot name a const parameter.
+// In each player: the print that it calls is all that its three lines are about.
 fn show(rt: &HostRuntime, record: &[u8]) {
     let mut out: [u8; playback::PRINT_SIZE] = [0; playback::PRINT_SIZE];
     let length = playback::print_on::<Machine>(record, &mut out);

@@ -1,4 +1,4 @@
-// What the controller answers to the layers above: N, the current rank, a look at the winner, the capture; and how an event is accepted or refused.
+// What the controller answers to the layers above: N, the current rank, a look at the winner, the capture.
 
 ghost use Rattle.std.specs.Prelude.{◌≡◌};
 ghost use Rattle.pic.specs.Sources.{threshold_of, difference_of, over_of};

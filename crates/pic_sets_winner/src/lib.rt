@@ -21,6 +21,7 @@ fn lowest(set: Set) -> Option<u8>
 pub fn highest(sets: &Sets) -> Winner
     ensures { result ≡ highest_of sets.now }
 {
+    // By the index: it is the rank that is handed back.
     for r in (1..16).rev() {
         if let Some(source) = lowest(sets[r]) {
             return Winner {

@@ -92,8 +92,8 @@ fn print_by<P: Plays, const EVENTS: usize>(limits: Limits, record: &[u8], out: &
 
 // Prints any record into a buffer of any length: the print fills its first bytes, and the answer is how many. With less room than the record's print may
 // need it stays as it was, nothing is played, and the answer is 0.
-// This call and those below it are one call each of what does it for all: their names are published. Each answers a length, and no part of the buffer: C is
-// promised a length (`printed_length`), so `HasFirst` is a clause.
+// This call and those below it are one call each of what does it for all: their names are published. Each answers a length, as C is promised
+// (`printed_length`), and no part of the buffer, which would be lent on and could not be told with `out_after`; so `HasFirst` is a clause.
 pub fn print_into(record: &[u8], out: &mut [u8]) -> usize
     ensures value { result ≡ printed_length board «record».now (length out.old) }
     ensures out_after { out.new ≡ printed_into board «record».now out.old }
