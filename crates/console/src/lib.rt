@@ -156,7 +156,8 @@ fn has_argument(rt: &impl Env, place: usize) -> bool {
     !matches!(rt.arg(place, &mut []), Err(FillError::NotPresent))
 }
 
-// Reads standard input where the program has no argument, or the file that its one argument names, into the buffer, and answers the bytes. Where that fails, it is said on standard error, and nothing is left to be done.
+// Reads standard input where the program has no argument, or the file that its one argument names, into the buffer, and answers the bytes. Where that fails,
+// it is said on standard error, and nothing is left to be done.
 // Each program takes its own step then: a function that is lent the step would require that it may be called, and no published call has a precondition.
 pub fn read_input<'a>(rt: &HostRuntime, buffer: &'a mut [u8], usage: &[u8]) -> Option<&'a [u8]>
     ensures within { IfSome result (λ read. length read.now ≤ length buffer.old) }
