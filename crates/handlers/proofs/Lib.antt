@@ -1,2 +1,3 @@
 -- Laws of the handler service.
 pub mod Margins
+pub mod NoKind
