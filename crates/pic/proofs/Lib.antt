@@ -4,7 +4,6 @@ pub mod Soundness
 pub mod Winning
 pub mod Difference
 pub mod Larger
-pub mod Each
 pub mod Margins
 pub mod Turns
 pub mod Calling

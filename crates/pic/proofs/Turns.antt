@@ -8,6 +8,7 @@ use Rattle.pic_comparator.proofs.Comparing.{stays, neutral, entry-eligible, entr
 use Rattle.pic.specs.Sources.{rank_at, is_eligible, entry_at, winner_to}
 use Rattle.pic.specs.declared.Controller.{Controller}
 pub use Rattle.pic.specs.Sources.{waiting_at}
+use Rattle.pic.specs.Sound.{source_sound_at, sources_sound}
 
 -- A source of rank 0 does not pass, so whether its rank is 1 or more need not be asked.
 enters : (w : Winner) (s : ℕ) (r : Rank) → better_of w (entry_of (leb 1 r.0) s r) ≡ better_of w (record { source = s; rank = r })
@@ -44,6 +45,13 @@ module _ (c : Controller) (s : ℕ) where
   pub winner-stays : {w : Winner} {waits : Bool} → w ≡ winner_to c s → waits ≡ waiting_at c (s + 1) → waits ≡ false → w ≡ winner_to c (s + 1)
   winner-stays hw hs f = rw (hw, add-one) (sym (next-stays (rw add-one at (sym hs ∙ f))))
 
+pub sources-turn : (c : Controller) (s : ℕ) {ok good : Bool}
+    → ok ≡ sources_sound c s
+    → good ≡ source_sound_at c (s + 1)
+    → ok && good ≡ sources_sound c (s + 1)
+unfolding sources_sound
+sources-turn c s ho hg = rw (ho, hg, add-one)
+
 -- The same of a counter that goes from 1 up: t is the source, and t - 1 those before it.
 module _ (c : Controller) (t : ℕ) (h : 1 ≤ t) where
   here : t - 1 + 1 ≡ t
@@ -57,3 +65,6 @@ module _ (c : Controller) (t : ℕ) (h : 1 ≤ t) where
 
   pub winner-stays-at : {w : Winner} {waits : Bool} → w ≡ winner_to c (t - 1) → waits ≡ waiting_at c t → waits ≡ false → w ≡ winner_to c (t + 1 - 1)
   winner-stays-at hw hs f = rw (add-sub_cancel t 1) (rw here at (winner-stays c (t - 1) hw (rw here hs) f))
+
+  pub sources-at : {ok good : Bool} → ok ≡ sources_sound c (t - 1) → good ≡ source_sound_at c t → ok && good ≡ sources_sound c (t + 1 - 1)
+  sources-at {good = good} ho hg = rw (add-sub_cancel t 1) (rw here at (sources-turn c (t - 1) {good = good} ho (rw here hg)))
