@@ -91,9 +91,7 @@ impl Plays for Machine {
     }
 
     fn advance(&mut self, head: u32, value: u32) -> Answered {
-        let out = self.step(head, value);
-        *self = out.machine;
-        out.answered()
+        Machine::advance(self, head, value)
     }
 
     fn leave(self) -> Machine {

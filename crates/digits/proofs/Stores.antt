@@ -1,20 +1,26 @@
 -- Stores of lists into a buffer.
 use Prim.Native.Nat.{ℕ, suc, ◌+◌, ◌≤◌, ◌<◌}
 use mathlib.Core.Path.{◌≡◌, refl, sym, ap, ◌∙◌}
-use mathlib.Core.List.{List, [], ◌∷◌, ◌++◌, append_assoc}
+use mathlib.Core.List.{List, [], ◌∷◌, ◌++◌}
 use mathlib.Core.Bool.{Bool, true, false}
+use native.Mathlib.Numerals.{add-one}
 use native.Mathlib.Omega.{arith}
-use lib.ListN.{length, set}
-use lib.Seq.{sets, sets-eq, set_comm, drop-drop}
-use borrow.Rule.Slice.PartMut.{put_mid}
+use lib.ListN.{length, get_or, set, take}
+use lib.Seq.{sets, set_comm, take-suc, take_all, length-take-le}
 use Rattle.buffers.proofs.Stores.{sets_then}
 use lib.Dec.{leb}
 use borrow.Author.Tests.{leb-true, leb-false, le-leb, lt-leb}
 use Rattle.digits.specs.Put.{put_at, place_after}
 
--- A text copied to a place is stored there.
-pub copied : (d text : List ℕ) (at k : ℕ) {ys : List ℕ} → at + length text ≤ length d → k ≡ length text → ys ≡ text → put_mid at k d ys ≡ sets d at text
-copied d text at k h e f = rw (f, e, sets-eq text d at h, append_assoc, drop-drop (length text) at d)
+-- A turn of a loop that stores a text from a place on.
+pub copy-turn : (d₀ text : List ℕ) (at i : ℕ) {d : List ℕ} → i < length text → d ≡ sets d₀ at (take i text)
+    → set d (at + i) (get_or text i 0) ≡ sets d₀ at (take (i + 1) text)
+copy-turn d₀ text at i h e =
+    let m : at + i ≡ at + length (take i text) = simp (length-take-le i text (omega arith)) refl in
+    rw (e, add-one, take-suc text i 0 h) (sets_then d₀ at (take i text) (get_or text i 0 ∷ []) (at + i) m)
+
+pub copy-end : (d₀ text : List ℕ) (at i : ℕ) {d : List ℕ} → length text ≤ i → d ≡ sets d₀ at (take i text) → d ≡ sets d₀ at text
+copy-end d₀ text at i h e = rw (e, take_all i text h)
 
 -- A store behind a list is as well made before it.
 set-behind : (d : List ℕ) (at : ℕ) (xs : List ℕ) (m x : ℕ) → at + length xs ≤ m → set (sets d at xs) m x ≡ sets (set d m x) at xs

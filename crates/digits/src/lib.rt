@@ -62,6 +62,17 @@ fn has_room(space: usize, at: usize, count: usize) -> bool
     space.checked_sub(count).is_some_and(|last| at <= last)
 }
 
+// Stores the text in the buffer from a place on.
+fn copy(buffer: &mut [u8], at: usize, text: &[u8])
+    requires { at + length text.now ≤ length buffer.old }
+    ensures { buffer.new ≡ sets buffer.old at text.now }
+{
+    // By the index: `copy_from_slice` calls the C library's memmove, which C is not asked for.
+    for (i, b) in text.iter().enumerate() {
+        buffer[at + i] = *b;
+    }
+}
+
 // Puts the text into the buffer from a place on, and answers the place after it. Where the buffer does not hold it, nothing is stored.
 // A buffer and a place, here and below: published.
 pub fn put_text(buffer: &mut [u8], at: usize, text: &[u8]) -> usize
@@ -69,7 +80,7 @@ pub fn put_text(buffer: &mut [u8], at: usize, text: &[u8]) -> usize
     ensures buffer_after { buffer.new ≡ put_at buffer.old at text.now }
 {
     if has_room(buffer.len(), at, text.len()) {
-        buffer[at..at + text.len()].copy_from_slice(text);
+        copy(buffer, at, text);
         return at + text.len();
     }
     at

@@ -9,7 +9,7 @@ ghost use Rattle.claims.specs.Play.{events_played, played_of, answers_of, refusa
 ghost use Rattle.claims.specs.Nested.{Claimed};
 ghost use Rattle.lent_machine.specs.Lend.{answered_of};
 
-use claims::{Played, Plays};
+use claims::Played;
 pub use handlers::Answered;
 use handlers::Machine;
 

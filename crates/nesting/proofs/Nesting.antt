@@ -21,6 +21,15 @@ use Rattle.nesting.proofs.TraceLaws.{scans-are-words}
 module _ (P : Machine) where
   open P use {State, Event, next, answer, class}
 
+  -- A list played in two parts.
+  pub trace-append : (m : State) (es fs : List Event) → trace P m (es ++ fs) ≡ trace P m es ++ trace P (end P m es) fs
+  trace-append m [] fs = refl
+  trace-append m (e ∷ es) fs = ap (play P m e ∷◌) (trace-append (next m e) es fs)
+
+  pub end-append : (m : State) (es fs : List Event) → end P m (es ++ fs) ≡ end P (end P m es) fs
+  end-append m [] fs = refl
+  end-append m (e ∷ es) fs = end-append (next m e) es fs
+
   -- A step of a trace was played by the machine that the events before it left.
   pub record PlayedAt (m : State) (p : List (Entry (Step P))) (i : Entry (Step P)) : Type 0 where
     pub events : List Event

@@ -6,7 +6,7 @@ ghost use Rattle.pic.specs.Sources.{rank_at, pending_at, waiting_at, winner_of};
 use crate::Controller;
 use pic_comparator::{Winner, better};
 use pic_source::ranks::to_rank;
-use pic_source::sources::pending;
+use pic_source::sources::{pending, waiting};
 use pic_source::{Field, Rank};
 
 impl Controller {
@@ -34,7 +34,14 @@ impl Controller {
     pub fn waits(&self, s: u8) -> bool
         ensures { result ≡ waiting_at self.now s }
     {
-        (self.enable[s as usize] == 1) & self.is_pending(s)
+        let at = s as usize;
+        waiting(
+            self.enable[at],
+            self.trigger[at],
+            self.polarity[at],
+            self.line[at],
+            self.latch[at],
+        )
     }
 
     // The winner: the eligible source of highest rank, of equals the lowest number. The rank of a source is worked out only where it is enabled and pending; a

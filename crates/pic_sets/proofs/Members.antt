@@ -19,7 +19,7 @@ use Rattle.pic_bits.specs.Tables.{Shaped}
 use Rattle.pic_bits.proofs.Bits.{bit-cases, toggle-same, toggle-other}
 use Rattle.pic_bits.proofs.Shapes.{store-shape}
 use Rattle.pic_bits.proofs.Tables.{member-in, member-out}
-use Rattle.pic_sets.specs.Sets.{in_set, flipped_at, flipped_if, updated_of, flipped_to, flipped_word}
+use Rattle.pic_sets.specs.Sets.{in_set, flipped_at, flipped_if, updated_of, OthersStay, flipped_to, flipped_word}
 use Rattle.pic_sets.specs.Laws.{differs, is_in, FlipMember, UpdateMember, WordMember}
 
 -- A member that is not asked to change stays, and one that is asked to changes.
@@ -118,6 +118,16 @@ unfolding updated_of
 update-member sets h s old was new is q t a l =
     if-member is (flipped_if was sets old.0 s) (if-shape was sets old.0 s h) new.0 s q t a l
     ∙ ap (λ (m : Bool). differs m (is && is_in s new.0 t q)) (if-member was sets h old.0 s q t a l)
+
+-- Every set but those of the two ranks is as before.
+if-row : (on : Bool) (sets : List (List ℕ)) (r s q : ℕ) → (q ≡ r → ⊥) → get_or (flipped_if on sets r s) q [] ≡ get_or sets q []
+unfolding flipped_if flipped_at
+if-row true sets r s q n = get_or-set_other sets r q _ [] n
+if-row false sets r s q n = refl
+
+pub others-stay : (sets : List (List ℕ)) (s : ℕ) (old : Rank) (was : Bool) (new : Rank) (is : Bool) → OthersStay sets (updated_of sets s old was new is) old new
+unfolding updated_of
+others-stay sets s old was new is r m n = if-row is (flipped_if was sets old.0 s) new.0 s r n ∙ if-row was sets old.0 s r m
 
 -- The sources of one word.
 module _ (sets : List (List ℕ)) (h : Shaped 16 sets) (rank : ℕ → Rank) (x w : ℕ) where

@@ -1,13 +1,15 @@
 -- The sources of a word of sources, and of a word of which some are changed; the bits of what is pending, ready, a source.
-use Prim.Native.Nat.{ℕ}
+use Prim.Native.Nat.{ℕ, ◌<◌}
 use mathlib.Core.Path.{◌≡◌}
-use mathlib.Core.Bool.{Bool, true, false, cond, ◌&&◌}
-use Rattle.pic_source.specs.Sources.{is_source}
+use mathlib.Core.Bool.{Bool, true, false, cond, not, ◌&&◌}
+use native.Mathlib.Omega.{arith}
+use lib.Dec.{eqb}
+use Rattle.pic_source.specs.Sources.{is_source, latch_after}
 use Rattle.pic_bits.specs.Bits.{has_bit, source_of}
 use Rattle.pic_bits.proofs.Bits.{bit-lt}
 use Rattle.pic_bits.proofs.Words.{bit-of-bits, has_word}
 use Rattle.pic_words.specs.declared.Word.{Word}
-use Rattle.pic_words.specs.Words.{Source, source_at, word_of, changed, changed_at, pending_source, waiting_source, pending_of, ready_of, source_bits}
+use Rattle.pic_words.specs.Words.{Source, source_at, word_of, changed, changed_at, settled, sampled_source, enabled_source, gateway_source, cleared_source, pending_source, waiting_source, pending_of, ready_of, source_bits}
 use Rattle.pic_words.specs.Laws.{Binary, SourceOfWord, ChangedAt, PendingBit, ReadyBit, SourceBit}
 
 -- A source is its five values.
@@ -42,6 +44,39 @@ changed-at w at change y l k = source-of-word (changed_at w at change) y l (go (
     go : (t : Bool) → Binary (cond t (change y (source_at w y)) (source_at w y))
     go true = k (source_at w y) (source-binary w y)
     go false = source-binary w y
+
+-- The changes of a source keep its values 0 or 1.
+pub latch-binary : (line polarity latch : ℕ) → latch < 2 → latch_after line polarity latch < 2
+latch-binary line polarity latch h = go (not (eqb line polarity))
+  where
+    go : (t : Bool) → cond t 1 latch < 2
+    go true = omega arith
+    go false = h
+
+pub settled-binary : (s : Source) → Binary s → Binary (settled s)
+settled-binary s b =
+    record {
+      enable = b.enable;
+      trigger = b.trigger;
+      polarity = b.polarity;
+      line = b.line;
+      latch = latch-binary s.line s.polarity s.latch b.latch;
+    }
+
+pub sampled-binary : (s : Source) (v : ℕ) → Binary s → v < 2 → Binary (sampled_source s v)
+sampled-binary s v b h =
+    settled-binary _ (record { enable = b.enable; trigger = b.trigger; polarity = b.polarity; line = h; latch = b.latch })
+
+pub enabled-binary : (s : Source) (v : ℕ) → Binary s → v < 2 → Binary (enabled_source s v)
+enabled-binary s v b h = record { enable = h; trigger = b.trigger; polarity = b.polarity; line = b.line; latch = b.latch }
+
+pub gateway-binary : (s : Source) (t p : ℕ) → Binary s → t < 2 → p < 2 → Binary (gateway_source s t p)
+gateway-binary s t p b h k =
+    settled-binary _ (record { enable = b.enable; trigger = h; polarity = k; line = b.line; latch = b.latch })
+
+pub cleared-binary : (s : Source) → Binary s → Binary (cleared_source s)
+cleared-binary s b =
+    settled-binary _ (record { enable = b.enable; trigger = b.trigger; polarity = b.polarity; line = b.line; latch = omega arith })
 
 -- The bits of what is pending, ready, a source.
 pub pending-bit : PendingBit

@@ -1,5 +1,5 @@
 -- Words of which some bits are anew: by the bits of a mask, by the active lines, and one bit.
-use Prim.Native.Nat.{ℕ, ◌*◌, ◌%◌, ◌^◌, ◌<◌}
+use Prim.Native.Nat.{ℕ, ◌*◌, ◌%◌, ◌^◌, ◌<◌, ◌≤◌}
 use mathlib.Core.Path.{◌≡◌, refl, ap, ◌∙◌}
 use mathlib.Core.Bool.{Bool, true, false, cond, not}
 use mathlib.Core.Logic.{◌⊎◌, inl, inr}
@@ -7,6 +7,7 @@ use native.Mathlib.Nat.{mul-zero, mul-one}
 use native.Mathlib.Omega.{arith}
 use lib.Bits.{bit_and, bit_or, bit_xor, and_le_l, and_le_r, or_lt}
 use lib.Dec.{eqb}
+use lib.Pow.{pow_mono}
 use borrow.Author.Tests.{ne_eqb}
 use Rattle.pic_source.specs.Sources.{latch_after}
 use Rattle.std.proofs.lemmas.Bool.{cases_eq}
@@ -79,6 +80,11 @@ settled_is has line polarity latch k l =
 one_bit : (k b : ℕ) → b < 2 → bit_of (2 ^ k * b) k ≡ b
 one_bit k =
     each-bit (λ (b : ℕ). bit_of (2 ^ k * b) k ≡ b) (ap (λ (w : ℕ). bit_of w k) (mul-zero (2 ^ k)) ∙ none-of-zero k) (ap (λ (w : ℕ). bit_of w k) (mul-one (2 ^ k)) ∙ power-on k)
+
+pub one-fits : (k b : ℕ) → k < 32 → b < 2 → 2 ^ k * b < 2 ^ 32
+one-fits k b h =
+    let p : 2 ^ k ≤ 2 ^ 31 = pow_mono {i = k} {j = 31} (omega arith) in
+    each-bit (λ (i : ℕ). 2 ^ k * i < 2 ^ 32) (omega arith) (omega arith) b
 
 pub with-bit-is : (w k v : ℕ) → bits_put (has_bit (2 ^ k)) (bit_of (2 ^ k * (v % 2))) w ≡ bits_put (λ (z : ℕ). eqb z k) (λ (z : ℕ). v % 2) w
 with-bit-is w k v =

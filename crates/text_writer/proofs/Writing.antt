@@ -22,7 +22,7 @@ use Rattle.record.specs.Answers.{done_with}
 use Rattle.record.proofs.Questions.{own-arrays}
 use Rattle.record.proofs.Parts.{Parts}
 use Rattle.text_lines.specs.Lines.{line_feed, colon}
-use Rattle.text_writer.specs.Writing.{ended, sources_text, event_text, events_text, listing_of, text_of}
+use Rattle.text_writer.specs.Writing.{ended, sources_text, event_text, line_texts, events_text, listing_of, text_of}
 use Rattle.text_writer.specs.Answers.{to_text_answer, to_text_bytes}
 
 -- An event's line has at most 18 bytes.
@@ -57,10 +57,7 @@ pub listing-length : (sources : ℕ) (heads values : List ℕ) → sources < 100
 listing-length sources heads values small =
     rw (length-append (ended (sources_text sources)) (events_text heads values)) (omega (arith, sources-length sources small, events-length heads values))
 
--- The pieces of an event's line.
-abbrev pub line_texts : ℕ → ℕ → List (List ℕ)
-line_texts head value = hexadecimal 8 head ∷ (colon ∷ []) ∷ hexadecimal 1 value ∷ (line_feed ∷ []) ∷ []
-
+-- The pieces of an event's line are the line.
 line-joined : (head value : ℕ) → joined (line_texts head value) ≡ ended (event_text head value)
 line-joined head value = ap (λ (l : List ℕ). l ++ line_feed ∷ []) (append_assoc (hexadecimal 8 head) (colon ∷ []) (hexadecimal 1 value))
 

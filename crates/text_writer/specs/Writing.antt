@@ -16,6 +16,10 @@ sources_text = decimal
 abbrev pub event_text : ℕ → ℕ → List ℕ
 event_text head value = hexadecimal 8 head ++ colon ∷ hexadecimal 1 value
 
+-- The four pieces of that line.
+abbrev pub line_texts : ℕ → ℕ → List (List ℕ)
+line_texts head value = hexadecimal 8 head ∷ (colon ∷ []) ∷ hexadecimal 1 value ∷ (line_feed ∷ []) ∷ []
+
 unfoldable pub events_text : List ℕ → List ℕ → List ℕ
 events_text [] values = []
 events_text (head ∷ heads) [] = []

@@ -6,8 +6,8 @@ use lib.ListN.{length, get_or, take, length-append}
 use Rattle.std.proofs.Common.{rules}
 use Rattle.std.proofs.lemmas.Slice.Zip.{zip_turn, zip_end}
 use Rattle.digits.specs.Pieces.{put_each, place_after_each}
-use Rattle.text_writer.specs.Writing.{ended, sources_text, listing_of}
-use Rattle.text_writer.proofs.Writing.{line_texts, none-listed, one-listed, all-listed, events-short}
+use Rattle.text_writer.specs.Writing.{ended, sources_text, line_texts, listing_of}
+use Rattle.text_writer.proofs.Writing.{none-listed, one-listed, all-listed, events-short}
 use Rattle.text_writer.proofs.put_listing.Goals as goal
 use Rattle.text_writer.proofs.put_listing.Goals.{In-Some, In-None}
 
@@ -35,8 +35,8 @@ loop-head-preserved c =
     let k = length c.loop-head.yielded in
     let one = length-append c.loop-head.yielded ((c.in-Some.head, c.in-Some.value) ∷ []) in
     let texts = line_texts (get_or c.args.heads.now k 0) (get_or c.args.values.now k 0) in
-    let place : c.put_pieces-at-in-loop-head.result ≡ place_after_each c.loop-head.text c.loop-head.at texts = rw (← t.2, ← t.3) c.put_pieces-at-in-loop-head.ensures.value in
-    let put : c.put_pieces-at-in-loop-head.new.buffer ≡ put_each c.loop-head.text c.loop-head.at texts = rw (← t.2, ← t.3) c.put_pieces-at-in-loop-head.ensures.buffer_after in
+    let place : c.put_event-at.result ≡ place_after_each c.loop-head.text c.loop-head.at texts = rw (← t.2, ← t.3) c.put_event-at.ensures.value in
+    let put : c.put_event-at.new.text ≡ put_each c.loop-head.text c.loop-head.at texts = rw (← t.2, ← t.3) c.put_event-at.ensures.text_after in
     let next = one-listed c.args.text.now c.args.sources c.args.heads.now c.args.values.now inv.small inv.room k t.0 t.1 (inv.place, inv.put) place put in
     record { small = inv.small; room = inv.room; place = rw one next.0; put = rw one next.1 }
 
